@@ -1,0 +1,27 @@
+-- One step of `bsearch`, as POSIX has it: the elements from lo up to hi are left.
+use Rattle.std.specs.Prelude.{ℕ, zero, suc, ◌+◌, ◌-◌, ◌*◌, ◌/◌, ◌%◌, ◌^◌, nat_lt, if◌then◌else◌, ℤ, pos, negsuc}
+use Rattle.callbacks.specs.declared.Frame.{Frame}
+use Rattle.callbacks.specs.declared.Next.{Next}
+use Rattle.callbacks.specs.declared.Next.TheVariants.{Probe, Done}
+
+-- the element in the middle of those that are left
+abbrev pub middle : Frame → ℕ
+middle f = f.lo + (f.hi - f.lo) / 2
+
+-- the address of the i-th element, modulo 2 ^ 64
+abbrev pub element : Frame → ℕ → ℕ
+element f i = (f.base + i * f.size) % 2 ^ 64
+
+-- a probe of the middle while elements are left, else the end without one
+unfoldable pub probe : Frame → Next
+probe f = if nat_lt f.lo f.hi then Probe (element f (middle f)) else Done 0
+
+abbrev pub probing : Frame → Frame × Next
+probing f = (f, probe f)
+
+-- what an answer to the probe leaves: a negative one the elements before the middle, a positive one those after it, and
+-- 0 ends the search at the middle
+unfoldable pub resumed : Frame → ℤ → Frame × Next
+resumed f (negsuc n) = probing (record f { hi = middle f })
+resumed f (pos zero) = (f, Done (element f (middle f)))
+resumed f (pos (suc n)) = probing (record f { lo = middle f + 1 })

@@ -1,0 +1,5 @@
+pub mod Layout
+pub mod Elf
+pub mod Library
+pub mod Loading
+pub mod Sound

@@ -1,0 +1,30 @@
+-- What holds of bytes once some faults are ruled out.
+use Rattle.std.specs.Prelude.{◌≡◌, ℕ, ◌+◌, ◌^◌, ◌<◌, ◌≤◌, ◌==◌, false, not, ◌&&◌, ◌||◌, List, [], ◌∷◌, length, take}
+use Rattle.std.specs.List.{list_any}
+use Rattle.elf_image.specs.declared.header.ProgramHeader.{ProgramHeader}
+use Rattle.elf_image.specs.Elf.{passes_end, file_header, program_headers, segment_headers, is_dynamic, is_writable, is_executable}
+use Rattle.elf_image.specs.Loading.{is_bad_table, is_bad_load, IsTooLarge, HasOverlap}
+
+-- the file header is read, and both tables of headers are whole
+pub record HasHeaders (bytes : List ℕ) : Type 0 where
+  pub long : 64 ≤ length bytes
+  pub elf64 : take 7 bytes ≡ 0x7f ∷ 69 ∷ 76 ∷ 70 ∷ 2 ∷ 1 ∷ 1 ∷ []
+  pub kind : (not ((file_header bytes).kind == 2) || not ((file_header bytes).machine == 62)) ≡ false
+  pub programs : is_bad_table (file_header bytes).phnum (file_header bytes).phentsize 56 (file_header bytes).phoff bytes ≡ false
+  pub sections : is_bad_table (file_header bytes).shnum (file_header bytes).shentsize 64 (file_header bytes).shoff bytes ≡ false
+
+-- what the header loads makes a segment
+pub record IsLoadable (bytes : List ℕ) (h : ProgramHeader) : Type 0 where
+  pub in_file : passes_end h.offset h.filesz bytes ≡ false
+  pub filled : h.filesz ≤ h.memsz
+  pub occupied : 0 < h.memsz
+  pub canonical : h.vaddr + h.memsz ≤ 2 ^ 47
+  pub protected : (is_writable h && is_executable h) ≡ false
+
+-- the program headers can be loaded
+pub record HasSegments (bytes : List ℕ) : Type 0 where
+  pub static : list_any is_dynamic (program_headers bytes) ≡ false
+  pub loads : list_any (is_bad_load bytes) (program_headers bytes) ≡ false
+  pub protected : list_any (λ h. is_writable h && is_executable h) (segment_headers bytes) ≡ false
+  pub small : ¬ IsTooLarge bytes
+  pub apart : ¬ HasOverlap bytes

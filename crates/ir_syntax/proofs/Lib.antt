@@ -1,0 +1,3 @@
+pub mod PartLemmas
+pub mod Decided
+pub mod TypedLemmas

@@ -1,0 +1,3 @@
+pub mod Cond
+pub mod Typed
+pub mod Width

@@ -1,0 +1,5 @@
+pub mod Causes
+pub mod Names
+pub mod Bytes
+pub mod Memory
+pub mod Real

@@ -1,0 +1,10 @@
+pub mod Widths
+pub mod Conditions
+pub mod Groups
+pub mod Operands
+pub mod Table
+pub mod Spelling
+pub mod Reading
+pub mod Laws
+pub mod Rows
+pub mod Limits
