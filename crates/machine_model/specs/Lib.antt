@@ -1,0 +1,2 @@
+pub mod CaseData
+pub mod First
