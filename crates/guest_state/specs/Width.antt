@@ -1,0 +1,10 @@
+use Rattle.std.specs.Prelude.{ℕ}
+use Rattle.guest_state.specs.declared.width.Width.{Width}
+use Rattle.guest_state.specs.declared.width.Width.TheVariants.{W8, W16, W32, W64}
+
+-- how many bits an access has
+unfoldable pub bits : Width → ℕ
+bits W8 = 8
+bits W16 = 16
+bits W32 = 32
+bits W64 = 64

@@ -1,0 +1,5 @@
+pub mod NumberLemmas
+pub mod SumLemmas
+pub mod ShiftLemmas
+pub mod ProductLemmas
+pub mod QuotientLemmas

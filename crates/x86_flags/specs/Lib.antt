@@ -1,0 +1,9 @@
+pub mod Width
+pub mod Numbers
+pub mod Outcome
+pub mod Sums
+pub mod Bitwise
+pub mod Shifts
+pub mod Rotations
+pub mod Products
+pub mod Quotients
