@@ -44,6 +44,10 @@ pub record Written : Type 0 where
   pub old : Option (List ℕ)
   pub new : Option (List ℕ)
 
+-- a sink, by its count and its bytes, before a call and after it
+abbrev pub written : {S : Type 0} → (S → ℕ) → (S → Option (List ℕ)) → S → S → Written
+written faults held old new = record { before = faults old; now = faults new; old = held old; new = held new }
+
 -- the bytes were appended, and no fault counted
 abbrev pub Gains : Written → List ℕ → Type 0
 Gains sink bytes = (sink.now ≡ sink.before) × Appends sink.old sink.new bytes

@@ -2,7 +2,7 @@
 ghost use Rattle.std.specs.Prelude.{◌≡◌, ◌⊎◌, [], None, Some, IsTrue, IfOk, IfErr, IfSome, IfNone, OnOk};
 ghost use Rattle.elf_image.specs.Loading.{IsImageOf, IsFaulty};
 ghost use Rattle.machine_model.specs.First.Blocks.{IsGated, IsReach};
-ghost use Rattle.recompile_core.specs.Answer.{prog_of, is_serial, HasCase, IsRefused, CauseOf, GainsOrFails, RanTo, EndsRun, Leaves};
+ghost use Rattle.recompile_core.specs.Answer.{prog_of, is_serial, HasCase, IsRefused, CauseOf, GainsOrFails, RanTo, EndsRun, Leaves, written};
 ghost use Rattle.recompile_core.specs.CaseOf.{IsCaseOf, case_at};
 ghost use Rattle.recompile_core.specs.Ending.{status_of, line_of, IfRun, IfFailure};
 ghost use Rattle.recompile_core.specs.Refusal.{Refuses, RefusesBytes, ended, settled};
@@ -122,7 +122,7 @@ pub(crate) fn refused<E: Sink>(alloc: Global, err: &mut E, refusal: Ending) -> A
     ensures status { result.status ≡ status_of result.ending }
     ensures case { result.case ≡ None }
     ensures journal { result.journal ≡ [] }
-    ensures line { GainsOrFails (record { before = E.faults err.old; now = E.faults err.new; old = E.held err.old; new = E.held err.new }) (line_of result.ending) }
+    ensures line { GainsOrFails (written E.faults E.held err.old err.new) (line_of result.ending) }
 {
     let told = tell(alloc, err, refusal);
     Answer {
@@ -137,7 +137,7 @@ pub(crate) fn refused<E: Sink>(alloc: Global, err: &mut E, refusal: Ending) -> A
 fn played<E: Sink>(alloc: Global, err: &mut E, case: Case) -> Answer
     ensures status { result.status ≡ status_of result.ending }
     ensures case { result.case ≡ Some case }
-    ensures machine { RanTo case result (record { before = E.faults err.old; now = E.faults err.new; old = E.held err.old; new = E.held err.new }) }
+    ensures machine { RanTo case result (written E.faults E.held err.old err.new) }
 {
     let (journal, end) = run(alloc, &case);
     let told = tell(alloc, err, ended(end));
@@ -178,13 +178,18 @@ pub fn recompile_plain<F: Files, I: Source, O: Sink, E: Sink>(
     ensures journal { IfNone result.case (result.journal ≡ []) }
 
     // The headline: what is written and answered is what the plain machine reaches along the journal.
-    ensures machine { IfRun result.ending (EndsRun result (record { before = O.faults out.old; now = O.faults out.new; old = O.held out.old; new = O.held out.new }) (record { before = E.faults err.old; now = E.faults err.new; old = E.held err.old; new = E.held err.new })) }
+    ensures machine { IfRun result.ending
+        (EndsRun result (written O.faults O.held out.old out.new) (written E.faults E.held err.old err.new)) }
     ensures gated { IfSome result.case (λ c. IsGated c result.journal) }
-    ensures after_failure { IfFailure result.ending (IfSome result.case (λ c. Leaves result (record { before = O.faults out.old; now = O.faults out.new; old = O.held out.old; new = O.held out.new }) (record { before = E.faults err.old; now = E.faults err.new; old = E.held err.old; new = E.held err.new }))) }
+    ensures after_failure { IfFailure result.ending (IfSome result.case (λ _.
+        Leaves result (written O.faults O.held out.old out.new) (written E.faults E.held err.old err.new))) }
 
     // When each ending comes, and what a refusal leaves.
-    ensures cause { CauseOf result.ending (F.names files.old) (prog_of plan) (F.read_faults files.old) (F.read_faults files.new) (record { before = O.faults out.old; now = O.faults out.new; old = O.held out.old; new = O.held out.new }) (record { before = E.faults err.old; now = E.faults err.new; old = E.held err.old; new = E.held err.new }) }
-    ensures refused { IfNone result.case (IsRefused result.ending (record { before = O.faults out.old; now = O.faults out.new; old = O.held out.old; new = O.held out.new }) (record { before = E.faults err.old; now = E.faults err.new; old = E.held err.old; new = E.held err.new })) }
+    ensures cause { CauseOf result.ending (F.names files.old) (prog_of plan)
+        (F.read_faults files.old) (F.read_faults files.new)
+        (written O.faults O.held out.old out.new) (written E.faults E.held err.old err.new) }
+    ensures refused { IfNone result.case
+        (IsRefused result.ending (written O.faults O.held out.old out.new) (written E.faults E.held err.old err.new)) }
     ensures names { F.names files.new ≡ F.names files.old }
     ensures writes { F.write_faults files.new ≡ F.write_faults files.old }
     ensures input { input.new ≡ input.old }

@@ -1,0 +1,5 @@
+pub mod Piece
+pub mod Memory
+pub mod Buffer
+pub mod Tso
+pub mod Change
