@@ -1,0 +1,3 @@
+pub mod Addresses
+pub mod Entry
+pub mod Layout
