@@ -1,0 +1,5 @@
+pub mod Width
+pub mod Family
+pub mod Does
+pub mod Ready
+pub mod Live
