@@ -2,6 +2,7 @@
 
 ghost use Rattle.std.specs.Prelude.{◌≡◌};
 ghost use Rattle.lib_table.specs.declared.answer.Stepped.TheVariants as stepped;
+ghost use Rattle.lib_table.specs.Outcome.{low_32, returned};
 
 use crate::answer::{Called, Stepped};
 use callbacks::Frame;
@@ -33,8 +34,6 @@ pub struct Ask {
 }
 
 impl Ask {
-    ghost use Rattle.lib_table.specs.Outcome.{returned};
-
     /// A call's return: to the address at rsp, which goes off the stack, with a value.
     pub(crate) fn returned(&self, back: u64, value: u64) -> Stepped
         ensures { result ≡ stepped.Done (returned self.now back value) }

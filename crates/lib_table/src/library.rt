@@ -1,6 +1,6 @@
 //! The library's data.
 
-ghost use Rattle.std.specs.Prelude.{◌≡◌, ◌+◌, ◌<◌, ◌≤◌, false, IfOk, IfSome, OnOk, OnErr, [], length};
+ghost use Rattle.std.specs.Prelude.{◌≡◌, ◌+◌, ◌<◌, ◌≤◌, false, IfOk, IfSome, OnOk, OnErr, [], length, position};
 ghost use Rattle.std.specs.FinMap as map;
 ghost use Rattle.lib_table.specs.Library.{birth, holder, is_live, is_unborn, life_at, next_number, start_of, with_held, with_input, with_life, with_output, without_held};
 
@@ -59,10 +59,17 @@ fn first_lives(alloc: Global) -> Result<Vec<Life>, AllocError>
         start: 0,
         argument: 0,
     })?;
-    for _ in 1..THREADS {
+    for _ in 0..THREADS - 1 {
         lives.push(Life::Unborn)?;
     }
     Ok(lives)
+}
+
+/// The first number that no thread has.
+fn first_unborn(lives: &[Life]) -> Option<usize>
+    ensures { result ≡ position is_unborn lives.now }
+{
+    lives.iter().position(|life| life.is_unborn())
 }
 
 impl Library {
@@ -134,12 +141,8 @@ impl Library {
         ensures numbers { IfSome result (λ t. t < length self.now.lives) }
         ensures few { length self.now.lives ≡ THREADS }
     {
-        for t in 0..THREADS {
-            if let Life::Unborn = self.lives[t] {
-                return Some(t as u32);
-            }
-        }
-        None
+        let t = first_unborn(&self.lives)?;
+        Some(t as u32)
     }
 
     pub(crate) fn set_life(&mut self, t: u64, life: Life)
