@@ -1,16 +1,18 @@
-//! Dead flag puts taken out of blocks.
+//! Dead flag puts taken out of the blocks of the register language.
+//!
+//! Most instructions put all five status flags, and most of those puts are overwritten before anything
+//! reads them. `strip` takes out exactly such lines. Its contract cites `kept_parts` of `ir_meaning`
+//! (`specs/Live.antt`: which flags are live between lines, and which lines stay) and `Alike` of
+//! `specs/Alike.antt`: part for part the block without those lines asks for what the block asks for,
+//! also from a state inside it, as far as live flags and needed temporaries go.
+//!
+//! Stands on `ir_syntax` (the lines), `ir_meaning` (what they do), and below it on `guest_state` and
+//! `x86_flags`.
 #![tactic(auto)]
 
-ghost use Rattle.std.specs.Prelude.{◌≡◌};
-ghost use Rattle.ir_meaning.specs.Live.{op_puts};
+mod live;
+mod pass;
+#[cfg(test)]
+mod tests;
 
-use ir_syntax::{Flag, Op};
-
-fn op_puts(op: &Op, flag: Flag) -> bool
-    ensures { result ≡ op_puts op.now flag }
-{
-    match *op {
-        Op::FlagOf { flag: put, .. } | Op::FlagZero { flag: put } => put == flag,
-        _ => false,
-    }
-}
+pub use pass::strip;
