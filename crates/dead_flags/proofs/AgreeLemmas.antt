@@ -1,5 +1,5 @@
 -- States that agree before a line agree after it.
-use Rattle.std.proofs.Common.{◌≡◌, ℕ, ◌+◌, ◌*◌, ◌%◌, ◌^◌, ◌<◌, ◌≤◌, Bool, true, false, not, ◌&&◌, ◌||◌, ap, sym, subst, refl, ◌∙◌, eqb, eq-eqb, ⊎_elim, List, [], ◌∷◌, length, get_or, get_or-set_same, Option, Some, None, arith}
+use Rattle.std.proofs.Common.{◌≡◌, ℕ, ◌+◌, ◌*◌, ◌%◌, ◌^◌, ◌<◌, ◌≤◌, Bool, true, false, not, ◌&&◌, ◌||◌, ap, sym, subst, refl, ◌∙◌, eqb, eq-eqb, ⊎_elim, List, length, get_or, get_or-set_same, Option, Some, None, arith}
 use Rattle.std.proofs.lemmas.Bool.{and_from, cases_eq, cases_lt, ne_eqb}
 use Rattle.std.proofs.lemmas.List.{get_or-set_other, get_or_past, length-set}
 use Rattle.std.specs.Int.{from_bool}
@@ -18,10 +18,8 @@ use Rattle.ir_syntax.specs.declared.line.PartEnd.TheVariants.{Tick, Load, Store,
 use Rattle.ir_syntax.specs.declared.line.Target.{Target}
 use Rattle.ir_syntax.specs.declared.line.Target.TheVariants.{Place, Temp}
 use Rattle.ir_syntax.specs.declared.request.Change.TheVariants.{Cmpxchg as to_cmpxchg}
-use Rattle.ir_syntax.specs.declared.request.Request.{Request}
 use Rattle.ir_syntax.specs.declared.request.Request.TheVariants.{Load as ask_load, Store as ask_store, StoreGo as ask_storego, Locked as ask_locked, Go as ask_go}
 use Rattle.ir_syntax.specs.declared.width.Width.{Width}
-use Rattle.ir_syntax.specs.Cond.{test}
 use Rattle.ir_syntax.specs.Width.{bits_of}
 use Rattle.x86_flags.specs.declared.flags.Flags.{Flags}
 use Rattle.x86_flags.specs.Numbers.{signed, low_bits}
@@ -88,16 +86,16 @@ set_same : (xs ys : List ℕ) (s t x y : ℕ) → length xs ≡ length ys → x 
 set_same xs ys s t x y room same kept =
     ⊎_elim
     (λ (e : s ≡ t).
-      subst (λ (k : ℕ). get_or (slice_set xs t x) k 0 ≡ get_or (slice_set ys t y) k 0) (sym e)
-      (⊎_elim
-        (λ (within : t < length xs).
-          let within_too : t < length ys = omega arith in
-          get_or-set_same xs t x 0 within ∙ same ∙ sym (get_or-set_same ys t y 0 within_too))
-        (λ (past : length xs ≤ t).
-          let past_set : length (slice_set xs t x) ≤ t = rw (length-set xs t x) past in
-          let past_too : length (slice_set ys t y) ≤ t = rw (length-set ys t y, ← room) past in
-          get_or_past (slice_set xs t x) t 0 past_set ∙ sym (get_or_past (slice_set ys t y) t 0 past_too))
-        (cases_lt t (length xs))))
+    subst (λ (k : ℕ). get_or (slice_set xs t x) k 0 ≡ get_or (slice_set ys t y) k 0) (sym e)
+    (⊎_elim
+    (λ (within : t < length xs).
+    let within_too : t < length ys = omega arith in
+    get_or-set_same xs t x 0 within ∙ same ∙ sym (get_or-set_same ys t y 0 within_too))
+    (λ (past : length xs ≤ t).
+    let past_set : length (slice_set xs t x) ≤ t = rw (length-set xs t x) past in
+    let past_too : length (slice_set ys t y) ≤ t = rw (length-set ys t y, ← room) past in
+    get_or_past (slice_set xs t x) t 0 past_set ∙ sym (get_or_past (slice_set ys t y) t 0 past_too))
+    (cases_lt t (length xs))))
     (λ (other : s ≡ t → ⊥). get_or-set_other xs t s x 0 other ∙ kept (ne_eqb s t other) ∙ sym (get_or-set_other ys t s y 0 other))
     (cases_eq s t)
 

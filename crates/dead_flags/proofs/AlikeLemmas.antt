@@ -1,7 +1,7 @@
 -- A block without its dead puts asks for what the block asks for.
-use Rattle.std.proofs.Common.{◌≡◌, ℕ, Bool, true, false, not, ◌&&◌, ◌||◌, ap, sym, refl, ◌∙◌, ⊎_elim, List, [], ◌∷◌}
+use Rattle.std.proofs.Common.{◌≡◌, ℕ, zero, suc, length, drop, Bool, true, false, not, ◌&&◌, ◌||◌, ap, sym, refl, ◌∙◌, ⊎_elim, List, [], ◌∷◌}
 use Rattle.std.proofs.lemmas.Bool.{both_ways, cases_Bool, not-true}
-use Rattle.std.specs.Prelude.{if◌then◌else◌}
+use Rattle.std.specs.Prelude.{if◌then◌else◌, slice_index}
 use Rattle.guest_state.specs.declared.virtual_state.Virtual.{Virtual}
 use Rattle.ir_syntax.specs.declared.block.Part.{Part}
 use Rattle.ir_syntax.specs.declared.cond.Flag.{Flag}
@@ -10,10 +10,10 @@ use Rattle.ir_syntax.specs.declared.line.Op.{Op}
 use Rattle.ir_syntax.specs.declared.line.Op.TheVariants.{Get, GetHigh, Put, PutHigh, Const, Ea, Calc, FlagOf, FlagZero, Cond, Pick, Zext, Sext, Cut}
 use Rattle.ir_syntax.specs.declared.line.PartEnd.{PartEnd}
 use Rattle.x86_flags.specs.declared.flags.Flags.{Flags}
-use Rattle.ir_meaning.specs.Does.{did, did_all, does, ended, answered, with_flag, flags_of, flag_in}
+use Rattle.ir_meaning.specs.Does.{did, did_all, with_flag, flags_of, flag_in}
 use Rattle.ir_meaning.specs.Live.{flags_where, is_flag, op_reads, op_puts, end_reads, live_before, live_before_end, live_before_ops, live_before_parts, is_dead, kept_ops, kept_parts}
-use Rattle.ir_meaning.specs.Needs.{needed_before, needed_before_end, needed_before_ops, needed_before_parts}
-use Rattle.dead_flags.specs.Alike.{Agrees, AgreesBefore, AsksAlike, Alike}
+use Rattle.ir_meaning.specs.Needs.{needed_before_end, needed_before_ops, needed_before_parts}
+use Rattle.dead_flags.specs.Alike.{Agrees, AsksAlike, Alike}
 use Rattle.dead_flags.proofs.AgreeLemmas.{or_kept, flag_where, did_agrees, ended_asks, ended_agrees}
 
 -- each flag of the first set is in the second
@@ -176,3 +176,26 @@ part_alike p ps need =
 pub strip_alike : (ps : List Part) (need : ℕ → Bool) → Alike need ps (kept_parts ps)
 strip_alike [] need = tt
 strip_alike (p ∷ ps) need = (part_alike p ps need, strip_alike ps need)
+
+-- what holds of two lists of parts holds from each part on
+pub alike_from : (k : ℕ) (need : ℕ → Bool) (ps qs : List Part) → Alike need ps qs → Alike need (drop k ps) (drop k qs)
+alike_from zero need ps qs h = h
+alike_from (suc k) need [] [] h = h
+alike_from (suc k) need [] (q ∷ qs) h = absurd h
+alike_from (suc k) need (p ∷ ps) [] h = absurd h
+alike_from (suc k) need (p ∷ ps) (q ∷ qs) h = alike_from k need ps qs h.1
+
+-- the parts without dead puts from a part on
+pub kept_parts-drop : (k : ℕ) (ps : List Part) → kept_parts (drop k ps) ≡ drop k (kept_parts ps)
+kept_parts-drop zero ps = refl
+kept_parts-drop (suc k) [] = refl
+kept_parts-drop (suc k) (p ∷ ps) = kept_parts-drop k ps
+
+-- the same registers and temporaries, and the same live flags
+pub agrees_whole : (live : Flags) (need : ℕ → Bool) (v u : Virtual) → v.regs ≡ u.regs → v.temps ≡ u.temps → ((flag : Flag) → flag_in live flag ≡ true → flag_in (flags_of v) flag ≡ flag_in (flags_of u) flag) → Agrees live need v u
+agrees_whole live need v u regs temps flags = record {
+  regs = regs;
+  room = ap (λ (l : List ℕ). length l) temps;
+  temps = λ t n. ap (λ (l : List ℕ). slice_index l t) temps;
+  flags = flags;
+}

@@ -13,11 +13,10 @@ use Rattle.ir_meaning.specs.Does.{flag_in}
 use Rattle.ir_meaning.specs.Family.{result_of, flags_after}
 use Rattle.ir_meaning.specs.Live.{uses_carry, can_keep}
 use Rattle.x86_flags.specs.declared.flags.Flags.{Flags}
-use Rattle.x86_flags.specs.Outcome.{Outcome, outcome, status, with_carry_of, unless_zero}
+use Rattle.x86_flags.specs.Outcome.{Outcome, with_carry_of, unless_zero}
 use Rattle.x86_flags.specs.Bitwise.{and_of, or_of, xor_of, not_of}
-use Rattle.x86_flags.specs.Products.{umul_of, smul_of}
 use Rattle.x86_flags.specs.Rotations.{rol_of, ror_of, rol_by, ror_by, turned}
-use Rattle.x86_flags.specs.Shifts.{shl_of, shr_of, sar_of, shl_by, shr_by, sar_by, count_of}
+use Rattle.x86_flags.specs.Shifts.{shl_of, shr_of, sar_of, count_of}
 use Rattle.x86_flags.specs.Sums.{add_of, adc_of, inc_of, sub_of, sbb_of, dec_of, neg_of, sum_of, difference_of}
 
 -- a shift's result doesn't depend on the flags

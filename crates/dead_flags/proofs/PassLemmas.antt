@@ -1,5 +1,5 @@
 -- One step of the passes from the end: over the op lines of a part, and over the parts.
-use Rattle.std.proofs.Common.{◌≡◌, ℕ, ◌+◌, ◌-◌, ◌<◌, ◌≤◌, Bool, true, false, ap, sym, subst, refl, ◌∙◌, arith, ⊎_elim, List, [], ◌∷◌, ◌++◌, length, take, drop, get_or, append_assoc, Option, Some, None}
+use Rattle.std.proofs.Common.{◌≡◌, ℕ, ◌+◌, ◌-◌, ◌<◌, ◌≤◌, Bool, true, false, ap, sym, subst, ◌∙◌, arith, ⊎_elim, List, [], ◌∷◌, ◌++◌, length, take, drop, get_or, append_assoc, Some, None}
 use Rattle.std.proofs.lemmas.List.{drop_more, take_more, get_or_default, get_or-take, take-take, take-set-le, drop-set, set_at, length-take-le, length-append, get_or_append_left, length-set, take_at, length-drop}
 use Rattle.std.proofs.lemmas.Option.{slice_get_cases, get_or_from_slice_get}
 use Rattle.std.specs.Prelude.{if◌then◌else◌, slice_set, slice_get}
@@ -71,9 +71,9 @@ part_at orig items j live p inside at s =
     let rest = kept_parts (drop (j + 1) orig) in
     let within : j < length (take (j + 1) orig) = omega arith in
     let here : get_or orig j p ≡ p =
-        sym (get_or-take (j + 1) orig j p next) ∙ sym (get_or_append_left (take (j + 1) orig) rest p j within) ∙ ap (λ (l : List Part). get_or l j p) (sym s.kept) ∙ get_or_from_slice_get items j p p at in
+    sym (get_or-take (j + 1) orig j p next) ∙ sym (get_or_append_left (take (j + 1) orig) rest p j within) ∙ ap (λ (l : List Part). get_or l j p) (sym s.kept) ∙ get_or_from_slice_get items j p p at in
     let items_are : items ≡ take j orig ++ p ∷ rest =
-        s.kept ∙ ap (λ (l : List Part). l ++ rest) (take_more orig j p inside ∙ ap (λ (q : Part). take j orig ++ q ∷ []) here) ∙ append_assoc (take j orig) (p ∷ []) rest in
+    s.kept ∙ ap (λ (l : List Part). l ++ rest) (take_more orig j p inside ∙ ap (λ (q : Part). take j orig ++ q ∷ []) here) ∙ append_assoc (take j orig) (p ∷ []) rest in
     let split : drop j orig ≡ p ∷ drop (j + 1) orig = drop_more orig j p inside ∙ ap (λ (q : Part). q ∷ drop (j + 1) orig) here in
     record {
       kept = ap (λ (l : List Part). slice_set l j (record p { ops = kept_ops p.ops (live_before_end p.end live) })) items_are ∙ set_at (take j orig) p rest _ j before ∙ ap (λ (b : Flags). take j orig ++ (record p { ops = kept_ops p.ops (live_before_end p.end b) }) ∷ rest) s.is_live ∙ ap (λ (l : List Part). take j orig ++ kept_parts l) (sym split);
@@ -87,10 +87,10 @@ part_next : (orig items new : List Part) (j : ℕ) (live before : Flags) → j <
 part_next orig items new j live before inside within e s =
     ⊎_elim
     (λ (found : (p : Part) × (j < length items) × (slice_get items j ≡ Some p) × (get_or items j p ≡ p)).
-      let p = found.0 in
-      let at = found.2 in
-      let done = part_at orig items j live p inside at s in
-      record { kept = e.0 p at ∙ done.kept; is_live = e.1 p at ∙ done.is_live })
+    let p = found.0 in
+    let at = found.2 in
+    let done = part_at orig items j live p inside at s in
+    record { kept = e.0 p at ∙ done.kept; is_live = e.1 p at ∙ done.is_live })
     (λ (past : (length items ≤ j) × (slice_get items j ≡ None)). absurd (omega (arith, past.0)))
     (slice_get_cases items j).1
 

@@ -1,12 +1,12 @@
 -- A well typed block stays well typed without its dead puts, which write no temporary.
-use Rattle.std.proofs.Common.{◌≡◌, ℕ, suc, ◌<◌, Bool, true, false, ◌&&◌, ap, sym, subst, refl, ◌∙◌, List, [], ◌∷◌, length}
+use Rattle.std.proofs.Common.{◌≡◌, ℕ, suc, ◌<◌, Bool, true, false, ap, sym, subst, refl, ◌∙◌, List, [], ◌∷◌, length}
 use Rattle.std.proofs.lemmas.Bool.{and_parts, and_from}
 use Rattle.std.specs.Prelude.{if◌then◌else◌}
 use Rattle.ir_syntax.specs.declared.block.Block.{Block}
 use Rattle.ir_syntax.specs.declared.block.Part.{Part}
 use Rattle.ir_syntax.specs.declared.line.Op.{Op}
 use Rattle.ir_syntax.specs.declared.line.Op.TheVariants.{Get, GetHigh, Put, PutHigh, Const, Ea, Calc, FlagOf, FlagZero, Cond, Pick, Zext, Sext, Cut}
-use Rattle.ir_syntax.specs.Typed.{Types, is_typed, types_after, are_typed, types_after_all, is_end_right, is_part_typed, types_after_part, types_after_end, is_empty, are_parts_typed, IsWellTyped, unwritten}
+use Rattle.ir_syntax.specs.Typed.{Types, is_typed, types_after, are_typed, types_after_all, is_end_right, is_part_typed, types_after_end, is_empty, are_parts_typed, IsWellTyped, unwritten}
 use Rattle.x86_flags.specs.declared.flags.Flags.{Flags}
 use Rattle.ir_meaning.specs.Live.{live_before_end, live_before_ops, live_before_parts, is_dead, kept_ops, kept_parts}
 

@@ -40,7 +40,9 @@ fn op_reads(op: &Op, flag: Flag) -> bool
     match *op {
         Op::Calc { family, .. } => uses_carry(family) && flag == Flag::Cf,
         Op::FlagOf {
-            flag: put, family, ..
+            flag: put,
+            family,
+            ..
         } => (uses_carry(family) && flag == Flag::Cf) || (can_keep(family, put) && put == flag),
         Op::Cond { c, .. } => c.reads(flag),
         _ => false,

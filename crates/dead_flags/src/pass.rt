@@ -88,16 +88,17 @@ fn strip_parts(parts: &mut Vec<Part>, alloc: Global)
     }
 }
 
-/// The block without its dead flag puts: puts of a flag that is put again in the block before anything
-/// reads it and before the block's end, where all five flags count as read.
+/// Takes the dead flag puts out of a block. A put is dead where the same flag is put again in the
+/// block before anything reads it and before the block's end, at which all five flags count as read.
 ///
 /// Dead is said of the block as it comes in: what a line reads counts, also where that line is taken
-/// out. Works in place in one pass from the end, takes no memory and gives none back.
+/// out. The address, the code bytes, the end lines and the order of the other lines stay. One pass
+/// from the end, in place; takes no memory.
 ///
-/// At each part, from states with the same registers, the same live flags and the same numbers in
-/// those temporaries that are read before they are written, the part asks for what the block's part
-/// asks for, and they agree again with every answer; after the last part in all five flags. This
-/// holds whichever temporaries are counted as needed after the block.
+/// From states that agree before a part in registers, in the flags that are live there in the new
+/// block and in the temporaries that it reads from there on before it writes them, the new part asks
+/// for what the old one asks for, and with every answer they agree again; after the last part in all
+/// five flags. This holds whichever temporaries are needed after the block.
 pub fn strip(block: Block) -> Block
     ensures exact { result ≡ record block { parts = kept_parts block.parts } }
     ensures same { (needed : ℕ → Bool) → Alike needed block.parts result.parts }

@@ -1,5 +1,4 @@
-use Rattle.std.proofs.Common.{subst, sym, ◌≡◌, ◌∙◌, List, ap}
-use Rattle.ir_syntax.specs.declared.block.Part.{Part}
+use Rattle.std.proofs.Common.{subst, sym, ◌≡◌, ◌∙◌, ap}
 use Rattle.ir_meaning.specs.Live.{kept_parts}
 use Rattle.dead_flags.specs.Alike.{Alike}
 use Rattle.dead_flags.proofs.AlikeLemmas.{strip_alike}
