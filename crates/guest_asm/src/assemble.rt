@@ -1,0 +1,3 @@
+//! The assembler.
+
+pub mod place;
