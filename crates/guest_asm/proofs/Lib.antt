@@ -1,2 +1,4 @@
 pub mod PlaceLemmas
 pub mod PlacesMade
+pub mod Spelled
+pub mod Encodings

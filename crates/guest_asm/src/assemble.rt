@@ -1,3 +1,4 @@
 //! The assembler.
 
+pub mod pieces;
 pub mod place;

@@ -1,0 +1,110 @@
+//! The bytes of one instruction, cut into parts (Intel SDM, Volume 2, 2.1, figure 2-1).
+
+ghost use Rattle.std.specs.Prelude.{◌≡◌, ◌+◌, ◌*◌, ◌/◌, ◌%◌, ◌<◌, ◌≤◌, ◌++◌, IfOk, take, drop};
+ghost use Rattle.x86_forms.specs.Spelling.{bytes_of};
+ghost use Rattle.guest_asm.specs.Places.{low_bytes};
+ghost use Rattle.guest_asm.specs.Pieces.{is_16, w_of, rex_of, with_place, with_code, parts_of};
+
+use crate::assemble::place::{
+    base_bit, displacement, index_bit, modrm_of, sib_part,
+};
+use std::alloc::{AllocError, Global};
+use x86_forms::{Place, Width};
+
+/// The low bytes of a number, the lowest first: `len` of them, at most 8.
+#[derive(Clone, Copy)]
+pub struct Number {
+    pub len: u8,
+    pub bits: u64,
+}
+
+/// An opcode byte, whether 0F stands before it, and the prefix F0 or F3 that it wants.
+#[derive(Clone, Copy)]
+pub struct Opcode {
+    pub prefix: Option<u8>,
+    pub escape: bool,
+    pub byte: u8,
+}
+
+/// The parts of one instruction. `narrowed` says that a 66 stands in front.
+#[derive(Clone, Copy)]
+pub struct Pieces {
+    pub narrowed: bool,
+    pub rex: Option<u8>,
+    pub opcode: Opcode,
+    pub modrm: Option<u8>,
+    pub sib: Option<u8>,
+    pub disp: Number,
+    pub imm: Number,
+}
+
+/// No byte.
+pub const NOTHING: Number = Number { len: 0, bits: 0 };
+
+fn is_16(width: Width) -> bool
+    ensures { result ≡ is_16 width }
+{
+    matches!(width, Width::W16)
+}
+
+fn w_of(width: Width) -> u8
+    ensures value { result ≡ w_of width }
+    ensures small { result < 2 }
+{
+    match width {
+        Width::W64 => 1,
+        Width::W8 | Width::W16 | Width::W32 => 0,
+    }
+}
+
+// REX where it stands, for a width and the numbers over 8 of index and base.
+fn rex_of(no_rex: bool, marks: Width, reg: u8, index: u8, base: u8) -> Option<u8>
+    ensures { result ≡ rex_of no_rex marks reg index base }
+{
+    if no_rex {
+        None
+    } else {
+        Some(64 + 8 * w_of(marks) + 4 * (reg / 8 % 2) + 2 * (index % 2) + base % 2)
+    }
+}
+
+impl Pieces {
+    /// An instruction with ModRM. `marks` is the width that 66 and REX.W show, 32 bits where neither
+    /// stands; `reg` is the number in the reg field, below 16.
+    pub fn with_place(
+        no_rex: bool,
+        marks: Width,
+        opcode: Opcode,
+        reg: u8,
+        place: Place,
+        imm: Number,
+    ) -> Self
+        ensures { result ≡ with_place no_rex marks opcode reg place imm }
+    {
+        Pieces {
+            narrowed: is_16(marks),
+            rex: rex_of(no_rex, marks, reg, index_bit(place), base_bit(place)),
+            opcode,
+            modrm: Some(modrm_of(reg, place)),
+            sib: sib_part(place),
+            disp: displacement(place),
+            imm,
+        }
+    }
+
+    /// An instruction without ModRM. `code` is the number of the register in the opcode, below 16, of
+    /// which REX.B has the top bit, and 0 where there is none.
+    pub fn with_code(no_rex: bool, marks: Width, opcode: Opcode, code: u8, imm: Number) -> Self
+        ensures { result ≡ with_code no_rex marks opcode code imm }
+    {
+        Pieces {
+            narrowed: is_16(marks),
+            rex: rex_of(no_rex, marks, 0, 0, code / 8),
+            opcode,
+            modrm: None,
+            sib: None,
+            disp: NOTHING,
+            imm,
+        }
+    }
+}
