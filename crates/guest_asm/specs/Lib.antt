@@ -1,2 +1,4 @@
 pub mod Places
 pub mod Pieces
+pub mod Encodable
+pub mod Choices

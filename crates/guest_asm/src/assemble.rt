@@ -1,4 +1,7 @@
 //! The assembler.
 
-pub mod pieces;
-pub mod place;
+mod choices;
+mod encodable;
+mod operands;
+mod pieces;
+mod place;
