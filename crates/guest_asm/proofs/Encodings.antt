@@ -19,11 +19,8 @@ use Rattle.guest_asm.specs.declared.assemble.pieces.Opcode.{Opcode}
 use Rattle.guest_asm.specs.Places.{optional, low_bytes, modrm_of, b_of, x_of, sib_part, reg_disp_mode, disp_bits, mode_len, base_disp_len, disp_len_of, bits_of, below, place_can}
 use Rattle.guest_asm.specs.Pieces.{is_16, w_of, rex_of, number_bytes, with_place, with_code, narrow_bytes, parts_of, marks_can}
 use Rattle.guest_asm.proofs.PlacesMade.{DispFits, place_made, PlaceMade}
+use Rattle.guest_asm.proofs.Found.{Finds, found_at}
 use Rattle.guest_asm.proofs.Spelled.{RowFacts, Formed, spell, low_length, low_are_bytes, bytes_both, one_byte, some_byte, optional_short, narrow_short, narrow_are_bytes, escape_short, escape_are_bytes, Bit, RexMade, rex_made, zero_bit, below_bit, place_bits}
-
--- the row is found by the opcode and the reg field, whatever REX.B is
-abbrev pub Finds : Row → Bool → ℕ → ℕ → Type 0
-Finds row escape op reg = (b : ℕ) → b < 2 → find_row (mark_of row.prefixes) b escape op reg ≡ Some row
 
 -- what a row asks of prefixes, width and immediate
 pub record Fit (row : Row) (no_rex : Bool) (marks w : Width) (o : Opcode) (imm : Number) : Type 0 where
@@ -79,7 +76,7 @@ spells_place row no_rex marks w o reg p imm i has found fit small mc rc pc df me
     let x = byte parts.rex in
     let pm = place_made no_rex x reg p df pc rx.bit_b rx.bit_x in
     let reg_is : middle_field (modrm_of reg p) + 8 * rex_r x ≡ reg = omega (arith, pm.middle, rx.bit_r) in
-    let row_is : find_row (mark_of row.prefixes) (rex_b x) o.escape o.byte (middle_field (modrm_of reg p)) ≡ Some row = rw pm.middle (found (rex_b x) (omega arith)) in
+    let row_is : find_row (mark_of row.prefixes) (rex_b x) o.escape o.byte (middle_field (modrm_of reg p)) ≡ Some row = rw pm.middle (found_at row o.escape o.byte (reg % 8) (rex_b x) found (omega arith)) in
     let facts : RowFacts row w parts i = record {
       allowed = fit.allowed;
       asked = fit.asked parts.rex rx.none rx.bit_w;
@@ -115,7 +112,7 @@ spells_code row no_rex marks w o code imm i has found fit small mc cc means =
     let rx = rex_made no_rex marks 0 0 (code / 8) mc (zero_bit no_rex) (zero_bit no_rex) (below_bit no_rex code cc) in
     let parts = parts_of (with_code no_rex marks o code imm) in
     let x = byte parts.rex in
-    let row_is : find_row (mark_of row.prefixes) (rex_b x) o.escape o.byte (middle_field (byte [])) ≡ Some row = found (rex_b x) (omega arith) in
+    let row_is : find_row (mark_of row.prefixes) (rex_b x) o.escape o.byte (middle_field (byte [])) ≡ Some row = found_at row o.escape o.byte 0 (rex_b x) found (omega arith) in
     let facts : RowFacts row w parts i = record {
       allowed = fit.allowed;
       asked = fit.asked parts.rex rx.none rx.bit_w;

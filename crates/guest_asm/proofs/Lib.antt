@@ -1,4 +1,5 @@
 pub mod PlaceLemmas
 pub mod PlacesMade
 pub mod Spelled
+pub mod Found
 pub mod Encodings

@@ -201,14 +201,20 @@ shift_pieces no_rex op w dst (Some n) = if nat_eq n 1 then with_place no_rex w (
 
 -- ---- XCHG with the accumulator, whose opcode 90 is another instruction
 
+abbrev pub has_code : Operand → Bool
+has_code (operand.Reg r) = not (nat_eq (r % 8) 0)
+has_code (operand.High r) = false
+has_code (operand.Mem m) = false
+has_code (operand.Imm n) = false
+
 abbrev pub is_exchange : Width → Operand → Operand → Bool
-is_exchange w a b = is_acc b && (is_over8 w && not (nat_eq (number_of a % 8) 0))
+is_exchange w a b = is_acc b && (is_over8 w && has_code a)
 
 abbrev pub xchg_pieces : Bool → Width → Operand → Operand → Pieces
-xchg_pieces no_rex w (operand.Mem m) b = with_place no_rex w (plain (0x86 + wide_bit w)) (number_of b) (place.Mem m) nothing
-xchg_pieces no_rex w (operand.Imm n) b = with_place no_rex w (plain (0x86 + wide_bit w)) (number_of b) (place.Reg 0) nothing
-xchg_pieces no_rex w (operand.High r) b = with_place no_rex w (plain (0x86 + wide_bit w)) (number_of b) (place.Reg (r % 4 + 4)) nothing
-xchg_pieces no_rex w (operand.Reg r) b = if is_exchange w (operand.Reg r) b then with_code no_rex w (plain (0x90 + r % 8)) r nothing else with_place no_rex w (plain (0x86 + wide_bit w)) (number_of b) (place.Reg r) nothing
+xchg_pieces no_rex w a b =
+    if is_exchange w a b
+    then with_code no_rex w (plain (0x90 + number_of a % 8)) (number_of a) nothing
+    else with_place no_rex w (plain (0x86 + wide_bit w)) (number_of b) (to_place a) nothing
 
 -- ---- conditions and targets
 
@@ -233,6 +239,12 @@ cond_code condition.G = 15
 -- a relative target in one byte, or in four
 abbrev pub jump_pieces : Opcode → Opcode → ℕ → Pieces
 jump_pieces near far bits = if is_short bits then with_code true W32 near 0 (number 1 bits) else with_code true W32 far 0 (number 4 bits)
+
+abbrev pub call_pieces : ℕ → Pieces
+call_pieces bits = with_code true W32 (plain 0xE8) 0 (number 4 bits)
+
+abbrev pub alone : Opcode → Pieces
+alone o = with_code true W32 o 0 nothing
 
 abbrev pub ret_pieces : ℕ → Pieces
 ret_pieces n = if nat_eq n 0 then with_code true W32 (plain 0xC3) 0 nothing else with_code true W32 (plain 0xC2) 0 (number 2 n)
@@ -263,12 +275,12 @@ pieces no_rex (instr.Cmov c w dst src) = with_place no_rex w (escaped (0x40 + co
 pieces no_rex (instr.Jcc c rel) = jump_pieces (plain (0x70 + cond_code c)) (escaped (0x80 + cond_code c)) (cast_unsigned w32 rel)
 pieces no_rex (instr.Jmp rel) = jump_pieces (plain 0xEB) (plain 0xE9) (cast_unsigned w32 rel)
 pieces no_rex (instr.JmpTo src) = with_place no_rex W32 (plain 0xFF) 4 (to_place src) nothing
-pieces no_rex (instr.Call rel) = with_code true W32 (plain 0xE8) 0 (number 4 (cast_unsigned w32 rel))
+pieces no_rex (instr.Call rel) = call_pieces (cast_unsigned w32 rel)
 pieces no_rex (instr.CallTo src) = with_place no_rex W32 (plain 0xFF) 2 (to_place src) nothing
 pieces no_rex (instr.Ret extra) = ret_pieces extra
-pieces no_rex instr.Leave = with_code true W32 (plain 0xC9) 0 nothing
-pieces no_rex instr.Nop = with_code true W32 (plain 0x90) 0 nothing
-pieces no_rex instr.Pause = with_code true W32 (behind (Some 0xF3) 0x90) 0 nothing
+pieces no_rex instr.Leave = alone (plain 0xC9)
+pieces no_rex instr.Nop = alone (plain 0x90)
+pieces no_rex instr.Pause = alone (behind (Some 0xF3) 0x90)
 pieces no_rex instr.Endbr = with_place true W32 (behind_escaped (Some 0xF3) 0x1E) 7 (place.Reg 2) nothing
 pieces no_rex instr.Mfence = with_place true W32 (escaped 0xAE) 6 (place.Reg 0) nothing
 pieces no_rex (instr.LockAlu op w mem src) = alu_pieces no_rex lock op w (operand.Mem mem) src
