@@ -3,3 +3,4 @@ pub mod PlacesMade
 pub mod Spelled
 pub mod Found
 pub mod Encodings
+pub mod OperandLemmas
