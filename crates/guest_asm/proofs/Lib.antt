@@ -4,3 +4,5 @@ pub mod Spelled
 pub mod Found
 pub mod Encodings
 pub mod OperandLemmas
+pub mod Forms
+pub mod Written
