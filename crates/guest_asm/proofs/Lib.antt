@@ -6,3 +6,4 @@ pub mod Encodings
 pub mod OperandLemmas
 pub mod Forms
 pub mod Written
+pub mod WrittenMov
