@@ -7,3 +7,4 @@ pub mod OperandLemmas
 pub mod Forms
 pub mod Written
 pub mod WrittenMov
+pub mod WrittenRest
