@@ -8,3 +8,4 @@ pub mod Forms
 pub mod Written
 pub mod WrittenMov
 pub mod WrittenRest
+pub mod Made
