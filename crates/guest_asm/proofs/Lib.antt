@@ -9,3 +9,5 @@ pub mod Written
 pub mod WrittenMov
 pub mod WrittenRest
 pub mod Made
+pub mod Read
+pub mod Needed
