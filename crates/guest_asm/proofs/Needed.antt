@@ -331,3 +331,198 @@ by_push no_rex t rm reg code n shape.CodeAcc g e = push_rm no_rex code (as_rm no
 by_push no_rex t rm reg code n shape.Rm g e = push_rm no_rex rm g.for_rm
 by_push no_rex t rm reg code n shape.Imm g e = g.for_imm e
 by_push no_rex t rm reg code n _ g e = absurd (both_ways false refl e)
+
+-- ---- the instruction
+
+reg_some : (o : Operand) (f : ℕ → Instr) (i : Instr) → with_reg o f ≡ Some i → (r : ℕ) × (o ≡ operand.Reg r) × (f r ≡ i)
+reg_some (operand.Reg r) f i e = (r, refl, same_Some (f r) i e)
+reg_some (operand.High r) f i e = absurd cc
+reg_some (operand.Mem m) f i e = absurd cc
+reg_some (operand.Imm n) f i e = absurd cc
+
+mem_some : (o : Operand) (f : Mem → Instr) (i : Instr) → with_mem o f ≡ Some i → (m : Mem) × (o ≡ operand.Mem m) × (f m ≡ i)
+mem_some (operand.Mem m) f i e = (m, refl, same_Some (f m) i e)
+mem_some (operand.Reg r) f i e = absurd cc
+mem_some (operand.High r) f i e = absurd cc
+mem_some (operand.Imm n) f i e = absurd cc
+
+lea_some : (w : Width) (o p : Operand) (i : Instr) → lea w o p ≡ Some i → (r : ℕ) × (m : Mem) × (o ≡ operand.Reg r) × (p ≡ operand.Mem m) × (instr.Lea w r m ≡ i)
+lea_some w (operand.Reg r) p i e = let c = mem_some p (λ m. instr.Lea w r m) i e in (r, c.0, refl, c.1, c.2)
+lea_some w (operand.High r) p i e = absurd cc
+lea_some w (operand.Mem m) p i e = absurd cc
+lea_some w (operand.Imm n) p i e = absurd cc
+
+cond_some : (o : Option Cond) (f : Cond → Option Instr) (i : Instr) → with_cond o f ≡ Some i → (c : Cond) × (f c ≡ Some i)
+cond_some (Some c) f i e = (c, e)
+cond_some None f i e = absurd cc
+
+-- what a row's width says of REX and of the operands
+record Sizes (no_rex : Bool) (z : Size) (w : Width) : Type 0 where
+  marks : is_q z ≡ false → marks_can no_rex w ≡ true
+  at_64 : is_q z ≡ true → w ≡ W64
+  at_8 : is_b z ≡ true → w ≡ W8
+
+module _ (no_rex : Bool) (s : Shape) (z : Size) (t : Tail) (w : Width) (rm reg code : Operand) (n o : ℕ) (bs : List ℕ) (i : Instr) where
+  abbrev pair : Operand × Operand
+  pair = operands_of s rm reg code (operand.Imm n)
+
+  at_once : (j : Instr) → (InstrFits j → can no_rex j ≡ true) → InstrFits i → Some j ≡ Some i → can no_rex i ≡ true
+  at_once j h f e = let is = same_Some j i e in subst (λ k. can no_rex k ≡ true) is (h (subst InstrFits (sym is) f))
+
+  with_number : (f : ℕ → Instr) → register_can no_rex w pair.0 ≡ true → ((r : ℕ) → pair.0 ≡ operand.Reg r → below no_rex r ≡ true → InstrFits (f r) → can no_rex (f r) ≡ true) → InstrFits i → with_reg pair.0 f ≡ Some i → can no_rex i ≡ true
+  with_number f d h fi e =
+      let c = reg_some pair.0 f i e in
+      let r : reg_can no_rex w c.0 ≡ true = subst (λ x. register_can no_rex w x ≡ true) c.1 d in
+      subst (λ k. can no_rex k ≡ true) c.2 (h c.0 c.1 (reg_below no_rex w c.0 r) (subst InstrFits (sym c.2) fi))
+
+  with_memory : (f : Mem → Instr) → rm_can no_rex w pair.0 ≡ true → ((m : Mem) → mem_can no_rex m ≡ true → InstrFits (f m) → can no_rex (f m) ≡ true) → InstrFits i → with_mem pair.0 f ≡ Some i → can no_rex i ≡ true
+  with_memory f d h fi e =
+      let c = mem_some pair.0 f i e in
+      subst (λ k. can no_rex k ≡ true) c.2 (h c.0 (subst (λ x. rm_can no_rex w x ≡ true) c.1 d) (subst InstrFits (sym c.2) fi))
+
+  one_operand : (j : Instr) → Given no_rex w w t rm reg code n → Sizes no_rex z w → (not (is_q z) && is_rm s) ≡ true → (marks_can no_rex w ≡ true → rm_can no_rex w pair.0 ≡ true → InstrFits j → can no_rex j ≡ true) → InstrFits i → Some j ≡ Some i → can no_rex i ≡ true
+  one_operand j g zs k h fi e = let p = and_parts (not (is_q z)) (is_rm s) k in at_once j (h (zs.marks (not-true _ p.0)) (by_rm no_rex w w t rm reg code n s g p.1)) fi e
+
+  needed : (k : Kind) → Given no_rex w (rm_width k w) t rm reg code n → Sizes no_rex z w → kind_ok k s z t ≡ true → InstrFits i → instr_of k w pair (operand.Imm n) o bs ≡ Some i → can no_rex i ≡ true
+  unfolding instr_of rm_width
+  needed (kind.Alu op) g zs k fi e =
+      let p = and_parts (not (is_q z)) _ k in
+      at_once (instr.Alu op w pair.0 pair.1) (λ _. and_from _ _ (zs.marks (not-true _ p.0)) (by_alu no_rex w t rm reg code n (not (is_test op)) s g p.1)) fi e
+  needed kind.Mov g zs k fi e =
+      let p = and_parts (not (is_q z)) _ k in
+      at_once (instr.Mov w pair.0 pair.1) (λ _. and_from _ _ (zs.marks (not-true _ p.0)) (by_mov no_rex w t rm reg code n s g p.1)) fi e
+  needed (kind.Zx from) g zs k fi e =
+      let p = and_parts (not (is_q z)) _ k in
+      let q = and_parts (is_reg_rm s) (not (is_32 from)) p.1 in
+      let d = by_reg_rm no_rex w from t rm reg code n s g q.0 in
+      with_number (λ r. instr.Zx from w r pair.1) d.0 (λ r _ b f. and_from _ _ (zs.marks (not-true _ p.0)) (and_from _ _ (zx_is from w f.0 (not-true _ q.1)) (and_from _ _ b d.1))) fi e
+  needed (kind.Sx from) g zs k fi e =
+      let p = and_parts (not (is_q z)) _ k in
+      let d = by_reg_rm no_rex w from t rm reg code n s g p.1 in
+      with_number (λ r. instr.Sx from w r pair.1) d.0 (λ r _ b f. and_from _ _ (zs.marks (not-true _ p.0)) (and_from _ _ (sx_is from w f.0) (and_from _ _ b d.1))) fi e
+  needed kind.Lea g zs k fi e =
+      let p = and_parts (not (is_q z)) _ k in
+      let d = by_reg_rm no_rex w w t rm reg code n s g p.1 in
+      let c = lea_some w pair.0 pair.1 i e in
+      let b : reg_can no_rex w c.0 ≡ true = subst (λ x. register_can no_rex w x ≡ true) c.2 d.0 in
+      let m : mem_can no_rex c.1 ≡ true = subst (λ x. rm_can no_rex w x ≡ true) c.3 d.1 in
+      let f : InstrFits (instr.Lea w c.0 c.1) = subst InstrFits (sym c.4) fi in
+      subst (λ j. can no_rex j ≡ true) c.4 (and_from _ _ (zs.marks (not-true _ p.0)) (and_from _ _ (over8_is w f.0) (and_from _ _ (reg_below no_rex w c.0 b) m)))
+  needed kind.Push g zs k fi e =
+      let p = and_parts (is_q z) _ k in
+      let g64 : Given no_rex W64 W64 t rm reg code n = subst (λ v. Given no_rex v v t rm reg code n) (zs.at_64 p.0) g in
+      at_once (instr.Push pair.0) (λ _. by_push no_rex t rm reg code n s g64 p.1) fi e
+  needed kind.Pop g zs k fi e = with_number (λ r. instr.Pop r) (by_code no_rex w w t rm reg code n s g k) (λ r _ b f. b) fi e
+  needed (kind.One op) g zs k fi e = one_operand (instr.One op w pair.0) g zs k (λ m d _. and_from _ _ m d) fi e
+  needed (kind.Mul signed_) g zs k fi e = one_operand (instr.Mul signed_ w pair.0) g zs k (λ m d f. and_from _ _ m (and_from _ _ (wide_is w f.0) d)) fi e
+  needed kind.ImulTwo g zs k fi e =
+      let p = and_parts (not (is_q z)) _ k in
+      let d = by_reg_rm no_rex w w t rm reg code n s g p.1 in
+      with_number (λ r. instr.Imul w r pair.0 pair.1) d.0 (λ r is b f. and_from _ _ (zs.marks (not-true _ p.0)) (and_from _ _ (wide_is w f.0) (and_from _ _ b (subst (λ x. imul_can no_rex w r x pair.1 ≡ true) (sym is) (imul_two no_rex w r pair.1 d.1))))) fi e
+  needed kind.ImulThree g zs k fi e =
+      let p = and_parts (not (is_q z)) _ k in
+      let q = and_parts (is_reg_rm s) (is_imm t) p.1 in
+      let d = by_reg_rm no_rex w w t rm reg code n s g q.0 in
+      with_number (λ r. instr.Imul w r pair.1 (operand.Imm n)) d.0 (λ r _ b f. and_from _ _ (zs.marks (not-true _ p.0)) (and_from _ _ (wide_is w f.0) (and_from _ _ b (and_from _ _ d.1 (g.for_imm q.1))))) fi e
+  needed (kind.Div signed_) g zs k fi e = one_operand (instr.Div signed_ w pair.0) g zs k (λ m d f. and_from _ _ m (and_from _ _ (wide_is w f.0) d)) fi e
+  needed (kind.ShiftBy op) g zs k fi e = one_operand (instr.Shift op w pair.0 (Some (byte bs))) g zs k (λ m d f. and_from _ _ m (and_from _ _ (shift_is op w f.0) d)) fi e
+  needed (kind.ShiftOne op) g zs k fi e = one_operand (instr.Shift op w pair.0 (Some 1)) g zs k (λ m d f. and_from _ _ m (and_from _ _ (shift_is op w f.0) d)) fi e
+  needed (kind.ShiftCl op) g zs k fi e = one_operand (instr.Shift op w pair.0 None) g zs k (λ m d f. and_from _ _ m (and_from _ _ (shift_is op w f.0) d)) fi e
+  needed kind.Widen g zs k fi e = at_once (instr.Widen w) (λ f. and_from _ _ (zs.marks (not-true _ k)) (wide_is w f)) fi e
+  needed kind.Spread g zs k fi e = at_once (instr.Spread w) (λ f. and_from _ _ (zs.marks (not-true _ k)) (wide_is w f)) fi e
+  needed kind.Xchg g zs k fi e =
+      let p = and_parts (not (is_q z)) _ k in
+      let d = by_swap no_rex w t rm reg code n s g p.1 in
+      at_once (instr.Xchg w pair.0 pair.1) (λ _. and_from _ _ (zs.marks (not-true _ p.0)) (and_from _ _ d.0 d.1)) fi e
+  needed kind.Set g zs k fi e =
+      let p = and_parts (is_b z) _ k in
+      let c = cond_some (condition o) (λ c. Some (instr.Set c pair.0)) i e in
+      at_once (instr.Set c.0 pair.0) (λ _. subst (λ v. rm_can no_rex v pair.0 ≡ true) (zs.at_8 p.0) (by_rm no_rex w w t rm reg code n s g p.1)) fi c.1
+  needed kind.Cmov g zs k fi e =
+      let p = and_parts (not (is_q z)) _ k in
+      let d = by_reg_rm no_rex w w t rm reg code n s g p.1 in
+      let c = cond_some (condition o) (λ c. with_reg pair.0 (λ r. instr.Cmov c w r pair.1)) i e in
+      with_number (λ r. instr.Cmov c.0 w r pair.1) d.0 (λ r _ b f. and_from _ _ (zs.marks (not-true _ p.0)) (and_from _ _ (wide_is w f.0) (and_from _ _ b d.1))) fi c.1
+  needed kind.Jcc g zs k fi e = let c = cond_some (condition o) (λ c. Some (instr.Jcc c (displacement bs))) i e in at_once (instr.Jcc c.0 (displacement bs)) (λ _. refl) fi c.1
+  needed kind.Jmp g zs k fi e = at_once (instr.Jmp (displacement bs)) (λ _. refl) fi e
+  needed kind.JmpTo g zs k fi e =
+      let p = and_parts (is_q z) _ k in
+      at_once (instr.JmpTo pair.0) (λ _. subst (λ v. rm_can no_rex v pair.0 ≡ true) (zs.at_64 p.0) (by_rm no_rex w w t rm reg code n s g p.1)) fi e
+  needed kind.Call g zs k fi e = at_once (instr.Call (displacement bs)) (λ _. refl) fi e
+  needed kind.CallTo g zs k fi e =
+      let p = and_parts (is_q z) _ k in
+      at_once (instr.CallTo pair.0) (λ _. subst (λ v. rm_can no_rex v pair.0 ≡ true) (zs.at_64 p.0) (by_rm no_rex w w t rm reg code n s g p.1)) fi e
+  needed kind.Ret g zs k fi e = at_once (instr.Ret (unsigned (take 2 bs))) (λ _. refl) fi e
+  needed kind.Leave g zs k fi e = at_once instr.Leave (λ _. refl) fi e
+  needed kind.Nop g zs k fi e = at_once instr.Nop (λ _. refl) fi e
+  needed kind.Pause g zs k fi e = at_once instr.Pause (λ _. refl) fi e
+  needed kind.Endbr g zs k fi e = at_once instr.Endbr (λ _. refl) fi e
+  needed kind.Mfence g zs k fi e = at_once instr.Mfence (λ _. refl) fi e
+  needed (kind.LockAlu op) g zs k fi e =
+      let p = and_parts (not (is_q z)) _ k in
+      let d = by_lock no_rex w t rm reg code n s g p.1 in
+      with_memory (λ m. instr.LockAlu op w m pair.1) d.0 (λ m c f. and_from _ _ (zs.marks (not-true _ p.0)) (and_from _ _ (lock_is op f.0) (and_from _ _ c d.1))) fi e
+  needed (kind.LockOne op) g zs k fi e =
+      let p = and_parts (not (is_q z)) _ k in
+      with_memory (λ m. instr.LockOne op w m) (by_rm no_rex w w t rm reg code n s g p.1) (λ m c f. and_from _ _ (zs.marks (not-true _ p.0)) (and_from _ _ (lock_one_is op f.0) c)) fi e
+  needed kind.LockXchg g zs k fi e =
+      let p = and_parts (not (is_q z)) _ k in
+      let d = by_store no_rex w t rm reg code n s g p.1 in
+      with_memory (λ m. instr.Xchg w (operand.Mem m) pair.1) d.0 (λ m c f. and_from _ _ (zs.marks (not-true _ p.0)) (and_from _ _ c d.1)) fi e
+  needed kind.Xadd g zs k fi e =
+      let p = and_parts (not (is_q z)) _ k in
+      let d = by_store no_rex w t rm reg code n s g p.1 in
+      with_memory (λ m. instr.Xadd w m pair.1) d.0 (λ m c f. and_from _ _ (zs.marks (not-true _ p.0)) (and_from _ _ c d.1)) fi e
+  needed kind.Cmpxchg g zs k fi e =
+      let p = and_parts (not (is_q z)) _ k in
+      let d = by_store no_rex w t rm reg code n s g p.1 in
+      with_memory (λ m. instr.Cmpxchg w m pair.1) d.0 (λ m c f. and_from _ _ (zs.marks (not-true _ p.0)) (and_from _ _ c d.1)) fi e
+
+-- ---- the whole
+
+both_bytes : (a b : List ℕ) → are_bytes (a ++ b) ≡ true → (are_bytes a ≡ true) × (are_bytes b ≡ true)
+both_bytes a b h = and_parts (are_bytes a) (are_bytes b) (sym (list_all-append (λ v. nat_lt v 256) a b) ∙ h)
+
+byte_below : (a : List ℕ) → are_bytes a ≡ true → byte a < 256
+byte_below [] h = omega arith
+byte_below (b ∷ bs) h = ltb-true b 256 (and_parts (nat_lt b 256) (are_bytes bs) h).0
+
+sib_below : (p : Parts) → are_bytes (bytes_of p) ≡ true → byte p.sib < 256
+sib_below p h =
+    let a = both_bytes p.prefixes _ h in
+    let b = both_bytes p.rex _ a.1 in
+    let c = both_bytes p.escape _ b.1 in
+    let d = both_bytes p.opcode _ c.1 in
+    let e = both_bytes p.modrm _ d.1 in
+    byte_below p.sib (both_bytes p.sib _ e.1).0
+
+-- A spelled instruction is one that the assembler takes, without a REX byte where the spelling has none.
+pub spelled_can : (i : Instr) (s : List ℕ) (h : Spells i s) → can (nat_eq (length h.parts.rex) 0) i ≡ true
+unfolding meaning
+spelled_can i s h =
+    let p = h.parts in
+    let l = h.line in
+    let w = h.width in
+    let f = h.form in
+    let row = l.row in
+    let v = rm_width row.kind w in
+    let no_rex = nat_eq (length p.rex) 0 in
+    let m = byte p.modrm in
+    let x = byte p.rex in
+    let none : no_rex ≡ true → x ≡ 0 = no_rex_is_0 p.rex in
+    let ok : row_ok row ≡ true = pass_at (λ (k : Line). row_ok k.row) table h.number l table_ok h.listed in
+    let bytes : are_bytes (bytes_of p) ≡ true = subst (λ t. are_bytes t ≡ true) h.string h.bytes in
+    let place = read_place no_rex x m (byte p.sib) (displacement p.disp) (sib_below p bytes) (λ t. let e = none t in rw e refl) (λ t. let e = none t in rw e refl) in
+    let given : Given no_rex w v row.tail (operand_of v no_rex (place_of x m (byte p.sib) (displacement p.disp))) (register w no_rex (middle_field m + 8 * rex_r x)) (register w no_rex (byte p.opcode % 8 + 8 * rex_b x)) (at_width w (signed p.imm)) = record {
+      for_rm = read_rm no_rex v _ place;
+      for_reg = read_register w no_rex _ (number_below no_rex (middle_field m) (rex_r x) (λ t. let e = none t in rw e refl) (omega arith) (omega arith));
+      for_code = read_register w no_rex _ (number_below no_rex (byte p.opcode % 8) (rex_b x) (λ t. let e = none t in rw e refl) (omega arith) (omega arith));
+      for_imm = λ t. read_imm w row.tail p.imm t f.imm;
+      for_whole = read_whole w (signed p.imm);
+    } in
+    let sizes : Sizes no_rex row.size w = record {
+      marks = λ q. read_marks row.size (is_narrowed p.prefixes) p.rex w q f.width;
+      at_64 = λ q. q_64 row.size (is_narrowed p.prefixes) (rex_w x) w q f.width;
+      at_8 = λ q. b_8 row.size (is_narrowed p.prefixes) (rex_w x) w q f.width;
+    } in
+    needed no_rex row.shape row.size row.tail w _ _ _ _ (byte p.opcode) p.imm i row.kind given sizes ok (spelled_fits i s h) h.means
