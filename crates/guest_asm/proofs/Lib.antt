@@ -11,3 +11,4 @@ pub mod WrittenRest
 pub mod Made
 pub mod Read
 pub mod Needed
+pub mod PushedBytes

@@ -35,6 +35,7 @@ use Rattle.x86_forms.proofs.LimitLemmas.{spelled_fits}
 use Rattle.guest_asm.specs.Places.{below, mem_can}
 use Rattle.guest_asm.specs.Pieces.{is_64, marks_can}
 use Rattle.guest_asm.specs.Encodable.{reg_can, high_can, register_can, rm_can, imm_can, whole_imm_can, value_can, pair_can, mov_imm_can, mov_can, is_reg, imul_can, push_can, is_test, is_wide, is_over8, zx_can, sx_can, shift_can, can_lock, can_lock_one, can}
+use Rattle.guest_asm.specs.Assembling.{HasNoSpelling}
 use Rattle.guest_asm.proofs.Read.{no_rex_is_0, number_below, read_register, as_rm, read_place, read_rm, is_imm, read_whole, read_imm, is_q, is_b, q_64, b_8, read_marks}
 
 -- ---- the operands of a row
@@ -526,3 +527,12 @@ spelled_can i s h =
       at_8 = λ q. b_8 row.size (is_narrowed p.prefixes) (rex_w x) w q f.width;
     } in
     needed no_rex row.shape row.size row.tail w _ _ _ _ (byte p.opcode) p.imm i row.kind given sizes ok (spelled_fits i s h) h.means
+
+-- What is taken neither without a REX byte nor with one has no spelling.
+pub no_spelling : (i : Instr) → can true i ≡ false → can false i ≡ false → HasNoSpelling i
+no_spelling i t f s h =
+    let c = spelled_can i s h in
+    elim (cases_Bool (nat_eq (length h.parts.rex) 0)) [
+      | inl e ↦ both_ways (can true i) t (subst (λ b. can b i ≡ true) e c)
+      | inr e ↦ both_ways (can false i) f (subst (λ b. can b i ≡ true) e c)
+    ]

@@ -64,6 +64,11 @@ with_code no_rex marks o code imm =
       imm = imm;
     }
 
+-- a byte that stands or not
+abbrev pub only_if : Bool → ℕ → List ℕ
+only_if true b = b ∷ []
+only_if false b = []
+
 abbrev pub narrow_bytes : Bool → List ℕ
 narrow_bytes true = 0x66 ∷ []
 narrow_bytes false = []

@@ -1,7 +1,36 @@
 //! The assembler.
 
+ghost use Rattle.std.specs.Prelude.{◌≡◌, IfOk, IfSome, IfNone};
+ghost use Rattle.x86_forms.specs.Spelling.{Spells};
+ghost use Rattle.guest_asm.specs.Assembling.{HasNoSpelling};
+
 mod choices;
 mod encodable;
 mod operands;
 mod pieces;
 mod place;
+
+use crate::assemble::choices::pieces;
+use crate::assemble::encodable::{can, typed};
+use std::alloc::{AllocError, Global};
+use x86_forms::Instr;
+
+/// A byte string that spells the instruction, at most 15 bytes, or `None` where no string does: where
+/// a register's number is 16 or more, an immediate does not fit, an operand is of a kind that the
+/// instruction does not take, or AH to BH would stand beside what only a REX byte names (Intel SDM,
+/// Volume 2, chapter 2 and the instruction's page). Of several spellings it is the shortest usual one.
+/// `AllocError` comes where there is no memory for the bytes.
+pub fn assemble(alloc: Global, instr: &Instr) -> Result<Option<Vec<u8>>, AllocError>
+    ensures spelled { IfOk result (λ o. IfSome o (λ s. Spells instr.now s.items)) }
+    ensures none { IfOk result (λ o. IfNone o (HasNoSpelling instr.now)) }
+{
+    let instr = *instr;
+    typed(instr);
+    if can(true, instr) {
+        Ok(Some(pieces(true, instr).bytes(alloc)?))
+    } else if can(false, instr) {
+        Ok(Some(pieces(false, instr).bytes(alloc)?))
+    } else {
+        Ok(None)
+    }
+}

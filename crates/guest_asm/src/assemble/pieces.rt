@@ -1,9 +1,9 @@
 //! The bytes of one instruction, cut into parts (Intel SDM, Volume 2, 2.1, figure 2-1).
 
-ghost use Rattle.std.specs.Prelude.{◌≡◌, ◌+◌, ◌*◌, ◌/◌, ◌%◌, ◌<◌, ◌≤◌, ◌++◌, IfOk, take, drop};
+ghost use Rattle.std.specs.Prelude.{◌≡◌, ◌+◌, ◌*◌, ◌/◌, ◌%◌, ◌<◌, ◌≤◌, ◌++◌, IfOk, OnOk};
 ghost use Rattle.x86_forms.specs.Spelling.{bytes_of};
-ghost use Rattle.guest_asm.specs.Places.{low_bytes};
-ghost use Rattle.guest_asm.specs.Pieces.{is_16, w_of, rex_of, with_place, with_code, parts_of};
+ghost use Rattle.guest_asm.specs.Places.{optional};
+ghost use Rattle.guest_asm.specs.Pieces.{is_16, w_of, rex_of, with_place, with_code, number_bytes, only_if, parts_of};
 
 use crate::assemble::place::{
     base_bit, displacement, index_bit, modrm_of, sib_part,
@@ -107,4 +107,50 @@ impl Pieces {
             imm,
         }
     }
+
+    /// The bytes of the parts, one after another.
+    pub fn bytes(self, alloc: Global) -> Result<Vec<u8>, AllocError>
+        ensures { IfOk result (λ v. v.items ≡ bytes_of (parts_of self)) }
+    {
+        let mut bytes = Vec::new(alloc);
+        push_if(&mut bytes, self.narrowed, 0x66)?;
+        push_optional(&mut bytes, self.opcode.prefix)?;
+        push_optional(&mut bytes, self.rex)?;
+        push_if(&mut bytes, self.opcode.escape, 0x0F)?;
+        bytes.push(self.opcode.byte)?;
+        push_optional(&mut bytes, self.modrm)?;
+        push_optional(&mut bytes, self.sib)?;
+        push_number(&mut bytes, self.disp)?;
+        push_number(&mut bytes, self.imm)?;
+        Ok(bytes)
+    }
+}
+
+fn push_if(bytes: &mut Vec<u8>, stands: bool, byte: u8) -> Result<(), AllocError>
+    ensures { OnOk result (bytes.new.items ≡ bytes.old.items ++ only_if stands byte) }
+{
+    if stands {
+        bytes.push(byte)?;
+    }
+    Ok(())
+}
+
+fn push_optional(bytes: &mut Vec<u8>, byte: Option<u8>) -> Result<(), AllocError>
+    ensures { OnOk result (bytes.new.items ≡ bytes.old.items ++ optional byte) }
+{
+    if let Some(byte) = byte {
+        bytes.push(byte)?;
+    }
+    Ok(())
+}
+
+fn push_number(bytes: &mut Vec<u8>, number: Number) -> Result<(), AllocError>
+    ensures { OnOk result (bytes.new.items ≡ bytes.old.items ++ number_bytes number) }
+{
+    let mut rest = number.bits;
+    for _ in 0..number.len {
+        bytes.push((rest % 256) as u8)?;
+        rest /= 256;
+    }
+    Ok(())
 }
