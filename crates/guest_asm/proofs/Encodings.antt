@@ -14,8 +14,8 @@ use Rattle.x86_forms.specs.declared.rows.Row.{Row}
 use Rattle.x86_forms.specs.Operands.{byte, signed, displacement, rex_w, rex_r, rex_x, rex_b, middle_field, place_of, register, operand_of, width_of, tail_len, at_width}
 use Rattle.x86_forms.specs.Spelling.{Parts, bytes_of, Spells, escape_bytes, modrm_len, mark_of, sib_len, disp_size, is_asked, operands_of, instr_of, rm_width, meaning, allows, allows_rex, is_narrowed, are_bytes}
 use Rattle.x86_forms.specs.Reading.{find_row}
-use Rattle.guest_asm.specs.declared.assemble.pieces.Number.{Number}
-use Rattle.guest_asm.specs.declared.assemble.pieces.Opcode.{Opcode}
+use Rattle.guest_asm.specs.declared.assembler.pieces.Number.{Number}
+use Rattle.guest_asm.specs.declared.assembler.pieces.Opcode.{Opcode}
 use Rattle.guest_asm.specs.Places.{optional, low_bytes, modrm_of, b_of, x_of, sib_part, reg_disp_mode, disp_bits, mode_len, base_disp_len, disp_len_of, bits_of, below, place_can}
 use Rattle.guest_asm.specs.Pieces.{is_16, w_of, rex_of, number_bytes, with_place, with_code, narrow_bytes, parts_of, marks_can}
 use Rattle.guest_asm.proofs.PlacesMade.{DispFits, place_made, PlaceMade}

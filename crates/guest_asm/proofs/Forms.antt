@@ -22,8 +22,8 @@ use Rattle.x86_forms.specs.Operands.{byte, rex_w, register, width_of, tail_len}
 use Rattle.x86_forms.specs.Spelling.{bytes_of, Spells, operands_of, instr_of, rm_width, allows, allows_rex, is_narrowed, are_bytes}
 use Rattle.x86_forms.specs.Reading.{read}
 use Rattle.x86_forms.proofs.Sound.{sound}
-use Rattle.guest_asm.specs.declared.assemble.pieces.Number.{Number}
-use Rattle.guest_asm.specs.declared.assemble.pieces.Opcode.{Opcode}
+use Rattle.guest_asm.specs.declared.assembler.pieces.Number.{Number}
+use Rattle.guest_asm.specs.declared.assembler.pieces.Opcode.{Opcode}
 use Rattle.guest_asm.specs.Places.{optional, below}
 use Rattle.guest_asm.specs.Pieces.{is_16, w_of, number_bytes, with_place, with_code, narrow_bytes, parts_of, marks_can}
 use Rattle.guest_asm.specs.Encodable.{rm_can, is_wide, is_over8, is_test, OperandTyped}

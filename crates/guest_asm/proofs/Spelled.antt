@@ -19,8 +19,8 @@ use Rattle.x86_forms.specs.Table.{Line, same, table}
 use Rattle.x86_forms.specs.Spelling.{Parts, bytes_of, HasForm, Spells, escape_bytes, modrm_len, covers, mark_of, sib_len, disp_size, is_asked, is_rex_part, operands_of, instr_of, rm_width, meaning, allows, allows_rex, is_narrowed, are_bytes}
 use Rattle.x86_forms.specs.Reading.{find_row}
 use Rattle.x86_forms.proofs.TableLemmas.{covers_parts, row_found}
-use Rattle.guest_asm.specs.declared.assemble.pieces.Number.{Number}
-use Rattle.guest_asm.specs.declared.assemble.pieces.Opcode.{Opcode}
+use Rattle.guest_asm.specs.declared.assembler.pieces.Number.{Number}
+use Rattle.guest_asm.specs.declared.assembler.pieces.Opcode.{Opcode}
 use Rattle.guest_asm.specs.Places.{optional, low_bytes, base_high, index_high, modrm_of, b_of, x_of, sib_part, disp_len_of, bits_of, below, base_can, index_can, mem_can, place_can}
 use Rattle.guest_asm.specs.Pieces.{is_16, is_64, w_of, rex_of, number_bytes, with_place, with_code, narrow_bytes, parts_of, marks_can}
 use Rattle.guest_asm.proofs.PlacesMade.{DispFits, place_made}

@@ -19,7 +19,7 @@ use Rattle.x86_forms.specs.declared.rows.Kind.TheVariants as kind
 use Rattle.x86_forms.specs.Operands.{signed, register, tail_len, at_width}
 use Rattle.x86_forms.specs.Table.{rm, no, asking}
 use Rattle.x86_forms.specs.Spelling.{bytes_of, Spells, operands_of, instr_of, rm_width}
-use Rattle.guest_asm.specs.declared.assemble.pieces.Pieces.{Pieces}
+use Rattle.guest_asm.specs.declared.assembler.pieces.Pieces.{Pieces}
 use Rattle.guest_asm.specs.Places.{low_bytes, below, mem_can}
 use Rattle.guest_asm.specs.Pieces.{number, with_place, with_code, parts_of, marks_can}
 use Rattle.guest_asm.specs.Encodable.{reg_can, high_can, register_can, rm_can, imm_can, whole_imm_can, value_can, pair_can, is_test, is_over8, can_lock, OperandTyped}

@@ -20,7 +20,7 @@ use Rattle.x86_forms.specs.Operands.{byte, rex_w, signed, register, width_of, ta
 use Rattle.x86_forms.specs.Widths.{bytes_in}
 use Rattle.x86_forms.specs.Table.{rm, no, asking}
 use Rattle.x86_forms.specs.Spelling.{bytes_of, Spells, operands_of, instr_of, rm_width, allows, allows_rex, is_narrowed}
-use Rattle.guest_asm.specs.declared.assemble.pieces.Pieces.{Pieces}
+use Rattle.guest_asm.specs.declared.assembler.pieces.Pieces.{Pieces}
 use Rattle.guest_asm.specs.Places.{low_bytes, below, mem_can}
 use Rattle.guest_asm.specs.Pieces.{is_16, is_64, w_of, number, with_place, with_code, parts_of, marks_can}
 use Rattle.guest_asm.specs.Encodable.{reg_can, high_can, register_can, rm_can, imm_can, whole_imm_can, mov_imm_can, mov_can, push_can, is_over8, is_wide, zx_can, sx_can, OperandTyped, MemTyped}

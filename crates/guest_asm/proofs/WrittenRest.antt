@@ -31,7 +31,7 @@ use Rattle.x86_forms.specs.Operands.{byte, unsigned, signed, displacement, has_s
 use Rattle.x86_forms.specs.Table.{table, rm, no, asking}
 use Rattle.x86_forms.specs.Spelling.{bytes_of, Spells, operands_of, instr_of, rm_width, meaning, covers, allows, allows_rex, is_narrowed, with_cond}
 use Rattle.x86_forms.specs.Reading.{cut, prefix_count, rex_len, escape_len, mark_in, find_line, find_row, read_head, row_at, read_operands, width_at, read_instr, read}
-use Rattle.guest_asm.specs.declared.assemble.pieces.Pieces.{Pieces}
+use Rattle.guest_asm.specs.declared.assembler.pieces.Pieces.{Pieces}
 use Rattle.guest_asm.specs.Places.{low_bytes, below, mem_can, is_short}
 use Rattle.guest_asm.specs.Pieces.{is_16, w_of, number, with_place, with_code, parts_of, marks_can}
 use Rattle.guest_asm.specs.Encodable.{reg_can, high_can, register_can, rm_can, imm_can, imul_can, is_reg, shift_can, is_over8, is_wide, can_lock_one, OperandTyped, MemTyped, CountTyped}

@@ -18,9 +18,9 @@ use Rattle.x86_forms.specs.declared.instructions.ShiftOp.{ShiftOp}
 use Rattle.x86_forms.specs.declared.instructions.ShiftOp.TheVariants.{Shl, Shr, Sar, Rol, Ror}
 use Rattle.x86_forms.specs.declared.instructions.Instr.{Instr}
 use Rattle.x86_forms.specs.declared.instructions.Instr.TheVariants as instr
-use Rattle.guest_asm.specs.declared.assemble.pieces.Number.{Number}
-use Rattle.guest_asm.specs.declared.assemble.pieces.Opcode.{Opcode}
-use Rattle.guest_asm.specs.declared.assemble.pieces.Pieces.{Pieces}
+use Rattle.guest_asm.specs.declared.assembler.pieces.Number.{Number}
+use Rattle.guest_asm.specs.declared.assembler.pieces.Opcode.{Opcode}
+use Rattle.guest_asm.specs.declared.assembler.pieces.Pieces.{Pieces}
 use Rattle.guest_asm.specs.Places.{is_short}
 use Rattle.guest_asm.specs.Pieces.{number, with_place, with_code}
 use Rattle.guest_asm.specs.Encodable.{is_over8, is_test, imm_can}

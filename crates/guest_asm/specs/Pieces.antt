@@ -4,9 +4,9 @@ use Rattle.x86_forms.specs.declared.operands.Width.{Width}
 use Rattle.x86_forms.specs.declared.operands.Width.TheVariants.{W8, W16, W32, W64}
 use Rattle.x86_forms.specs.declared.operands.Place.{Place}
 use Rattle.x86_forms.specs.Spelling.{Parts, escape_bytes}
-use Rattle.guest_asm.specs.declared.assemble.pieces.Number.{Number}
-use Rattle.guest_asm.specs.declared.assemble.pieces.Opcode.{Opcode}
-use Rattle.guest_asm.specs.declared.assemble.pieces.Pieces.{Pieces}
+use Rattle.guest_asm.specs.declared.assembler.pieces.Number.{Number}
+use Rattle.guest_asm.specs.declared.assembler.pieces.Opcode.{Opcode}
+use Rattle.guest_asm.specs.declared.assembler.pieces.Pieces.{Pieces}
 use Rattle.guest_asm.specs.Places.{optional, low_bytes, modrm_of, b_of, x_of, sib_part, disp_len_of, bits_of}
 
 abbrev pub is_16 : Width → Bool

@@ -4,7 +4,12 @@
 //! definition `Spells` of `x86_forms`: it gives a spelling where the instruction has one, and nothing
 //! exactly where no byte string spells it.
 //!
-//! It stands on `x86_forms`.
+//! Tests, generators of guest programs and whoever wants a tiny guest stand on this crate. It stands
+//! on `x86_forms`, whose table of opcodes says what is a spelling.
 #![tactic(auto)]
 
-pub mod assemble;
+mod assembler;
+#[cfg(test)]
+mod tests;
+
+pub use assembler::assemble;

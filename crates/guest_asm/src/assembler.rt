@@ -10,8 +10,8 @@ mod operands;
 mod pieces;
 mod place;
 
-use crate::assemble::choices::pieces;
-use crate::assemble::encodable::{can, typed};
+use crate::assembler::choices::pieces;
+use crate::assembler::encodable::{can, typed};
 use std::alloc::{AllocError, Global};
 use x86_forms::Instr;
 

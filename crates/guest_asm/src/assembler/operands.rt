@@ -4,7 +4,7 @@ ghost use Rattle.std.specs.Prelude.{◌≡◌, ◌<◌, ◌≤◌};
 ghost use Rattle.guest_asm.specs.Encodable.{is_over8};
 ghost use Rattle.guest_asm.specs.Choices.{number_of, to_place, is_acc, wide_bit, is_short_imm, imm_bytes, plain, escaped, behind, behind_escaped};
 
-use crate::assemble::pieces::Opcode;
+use crate::assembler::pieces::Opcode;
 use x86_forms::{Operand, Place, Width};
 
 /// The number of a register, where AH to BH have 4 to 7, and 0 of other operands.

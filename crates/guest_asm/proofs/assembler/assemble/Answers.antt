@@ -3,7 +3,7 @@ use Rattle.x86_forms.specs.Spelling.{Spells, bytes_of}
 use Rattle.guest_asm.specs.Pieces.{parts_of}
 use Rattle.guest_asm.proofs.Made.{made}
 use Rattle.guest_asm.proofs.Needed.{no_spelling}
-use Rattle.guest_asm.proofs.assemble.assemble.Goals as goal
+use Rattle.guest_asm.proofs.assembler.assemble.Goals as goal
 
 pub returns-in_ok-bytes-clause-spelled : goal.returns-in_ok-bytes-clause-spelled
 returns-in_ok-bytes-clause-spelled c =

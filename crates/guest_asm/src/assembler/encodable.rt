@@ -7,7 +7,7 @@ ghost use Rattle.guest_asm.specs.Places.{below, is_scale, index_can, base_can, m
 ghost use Rattle.guest_asm.specs.Pieces.{marks_can};
 ghost use Rattle.guest_asm.specs.Encodable.{reg_can, high_can, register_can, rm_can, imm_can, whole_imm_can, value_can, pair_can, mov_imm_can, mov_can, is_reg, imul_can, is_wide, zx_can, sx_can, shift_can, is_test, can_lock, can_lock_one, push_can, can, MemTyped, OperandTyped, CountTyped, Typed};
 
-use crate::assemble::operands::is_over8;
+use crate::assembler::operands::is_over8;
 use x86_forms::{AluOp, Base, Instr, Mem, OneOp, Operand, ShiftOp, Width};
 
 fn below(no_rex: bool, r: u8) -> bool

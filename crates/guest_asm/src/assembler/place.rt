@@ -3,7 +3,7 @@
 ghost use Rattle.std.specs.Prelude.{◌≡◌, ◌<◌, ◌≤◌};
 ghost use Rattle.guest_asm.specs.Places.{is_short, reg_disp_mode, disp_mode, base_low, base_high, base_needs_sib, needs_sib, mode_len, base_disp_len, bits_of, scale_bits, index_low, index_high, sib_of, high_of, low_of, b_of, x_of, sib_part, disp_bits, disp_len_of, modrm_of};
 
-use crate::assemble::pieces::Number;
+use crate::assembler::pieces::Number;
 use x86_forms::{Base, Mem, Place};
 
 /// Whether a signed number of 32 bits is that of its lowest byte.

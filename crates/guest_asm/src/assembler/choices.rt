@@ -4,13 +4,13 @@ ghost use Rattle.std.specs.Prelude.{◌≡◌, ◌<◌, ◌≤◌};
 ghost use Rattle.std.specs.Int.{w32, cast_unsigned};
 ghost use Rattle.guest_asm.specs.Choices.{alu_number, store_byte, load_byte, acc_byte, group_byte, takes_short, alu_imm, alu_pieces, mov_reg_imm, mov_imm, mov_pieces, zx_byte, sx_opcode, push_pieces, one_byte, one_number, imul_pieces, shift_number, shift_pieces, has_code, is_exchange, xchg_pieces, cond_code, jump_pieces, call_pieces, alone, ret_pieces, pieces};
 
-use crate::assemble::encodable::{imm_can, is_test};
-use crate::assemble::operands::{
+use crate::assembler::encodable::{imm_can, is_test};
+use crate::assembler::operands::{
     behind, behind_escaped, escaped, imm_bytes, is_acc, is_over8, is_short_imm, number_of, plain,
     to_place, wide_bit,
 };
-use crate::assemble::pieces::{NOTHING, Number, Opcode, Pieces};
-use crate::assemble::place::is_short;
+use crate::assembler::pieces::{NOTHING, Number, Opcode, Pieces};
+use crate::assembler::place::is_short;
 use x86_forms::{AluOp, Cond, Instr, OneOp, Operand, Place, ShiftOp, Width};
 
 const LOCK: u8 = 0xF0;
