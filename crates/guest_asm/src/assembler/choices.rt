@@ -14,6 +14,7 @@ use crate::assembler::place::is_short;
 use x86_forms::{AluOp, Cond, Instr, OneOp, Operand, Place, ShiftOp, Width};
 
 const LOCK: u8 = 0xF0;
+
 const REP: u8 = 0xF3;
 
 fn number(len: u8, bits: u64) -> Number
@@ -91,7 +92,14 @@ fn alu_imm(no_rex: bool, prefix: Option<u8>, op: AluOp, w: Width, dst: Operand, 
 {
     if takes_short(op, w, n) {
         let opcode = behind(prefix, 0x83);
-        Pieces::with_place(no_rex, w, opcode, alu_number(op), to_place(dst), number(1, n))
+        Pieces::with_place(
+            no_rex,
+            w,
+            opcode,
+            alu_number(op),
+            to_place(dst),
+            number(1, n),
+        )
     } else if is_acc(dst) {
         let opcode = behind(prefix, acc_byte(op, w));
         Pieces::with_code(no_rex, w, opcode, 0, number(imm_bytes(w), n))
@@ -132,8 +140,14 @@ fn mov_reg_imm(no_rex: bool, w: Width, r: u8, n: u64) -> Pieces
         Width::W8 => Pieces::with_code(no_rex, w, plain(0xB0 + r % 8), r, number(1, n)),
         Width::W16 => Pieces::with_code(no_rex, w, plain(0xB8 + r % 8), r, number(2, n)),
         Width::W32 => Pieces::with_code(no_rex, w, plain(0xB8 + r % 8), r, number(4, n)),
-        Width::W64 if imm_can(w, n) =>
-            Pieces::with_place(no_rex, w, plain(0xC7), 0, Place::Reg(r), number(4, n)),
+        Width::W64 if imm_can(w, n) => Pieces::with_place(
+            no_rex,
+            w,
+            plain(0xC7),
+            0,
+            Place::Reg(r),
+            number(4, n),
+        ),
         Width::W64 => Pieces::with_code(no_rex, w, plain(0xB8 + r % 8), r, number(8, n)),
     }
 }
@@ -144,10 +158,21 @@ fn mov_imm(no_rex: bool, w: Width, dst: Operand, n: u64) -> Pieces
     match dst {
         Operand::Mem(mem) => {
             let imm = number(imm_bytes(w), n);
-            Pieces::with_place(no_rex, w, plain(0xC6 + wide_bit(w)), 0, Place::Mem(mem), imm)
+            Pieces::with_place(
+                no_rex,
+                w,
+                plain(0xC6 + wide_bit(w)),
+                0,
+                Place::Mem(mem),
+                imm,
+            )
         }
-        Operand::Reg(_) | Operand::High(_) | Operand::Imm(_) =>
-            mov_reg_imm(no_rex, w, number_of(dst), n),
+        Operand::Reg(_) | Operand::High(_) | Operand::Imm(_) => mov_reg_imm(
+            no_rex,
+            w,
+            number_of(dst),
+            n,
+        ),
     }
 }
 
@@ -190,12 +215,28 @@ fn push_pieces(no_rex: bool, src: Operand) -> Pieces
     ensures { result ≡ push_pieces no_rex src }
 {
     match src {
-        Operand::Reg(r) | Operand::High(r) =>
-            Pieces::with_code(no_rex, Width::W32, plain(0x50 + r % 8), r, NOTHING),
-        Operand::Mem(mem) =>
-            Pieces::with_place(no_rex, Width::W32, plain(0xFF), 6, Place::Mem(mem), NOTHING),
-        Operand::Imm(n) if is_short_imm(Width::W64, n) =>
-            Pieces::with_code(true, Width::W32, plain(0x6A), 0, number(1, n)),
+        Operand::Reg(r) | Operand::High(r) => Pieces::with_code(
+            no_rex,
+            Width::W32,
+            plain(0x50 + r % 8),
+            r,
+            NOTHING,
+        ),
+        Operand::Mem(mem) => Pieces::with_place(
+            no_rex,
+            Width::W32,
+            plain(0xFF),
+            6,
+            Place::Mem(mem),
+            NOTHING,
+        ),
+        Operand::Imm(n) if is_short_imm(Width::W64, n) => Pieces::with_code(
+            true,
+            Width::W32,
+            plain(0x6A),
+            0,
+            number(1, n),
+        ),
         Operand::Imm(n) => Pieces::with_code(true, Width::W32, plain(0x68), 0, number(4, n)),
     }
 }
@@ -225,12 +266,30 @@ fn imul_pieces(no_rex: bool, w: Width, dst: u8, a: Operand, b: Operand) -> Piece
     ensures { result ≡ imul_pieces no_rex w dst a b }
 {
     match b {
-        Operand::Imm(n) if is_short_imm(w, n) =>
-            Pieces::with_place(no_rex, w, plain(0x6B), dst, to_place(a), number(1, n)),
-        Operand::Imm(n) =>
-            Pieces::with_place(no_rex, w, plain(0x69), dst, to_place(a), number(4, n)),
-        Operand::Reg(_) | Operand::High(_) | Operand::Mem(_) =>
-            Pieces::with_place(no_rex, w, escaped(0xAF), dst, to_place(b), NOTHING),
+        Operand::Imm(n) if is_short_imm(w, n) => Pieces::with_place(
+            no_rex,
+            w,
+            plain(0x6B),
+            dst,
+            to_place(a),
+            number(1, n),
+        ),
+        Operand::Imm(n) => Pieces::with_place(
+            no_rex,
+            w,
+            plain(0x69),
+            dst,
+            to_place(a),
+            number(4, n),
+        ),
+        Operand::Reg(_) | Operand::High(_) | Operand::Mem(_) => Pieces::with_place(
+            no_rex,
+            w,
+            escaped(0xAF),
+            dst,
+            to_place(b),
+            NOTHING,
+        ),
     }
 }
 
@@ -321,7 +380,13 @@ fn ret_pieces(extra: u16) -> Pieces
     if extra == 0 {
         Pieces::with_code(true, Width::W32, plain(0xC3), 0, NOTHING)
     } else {
-        Pieces::with_code(true, Width::W32, plain(0xC2), 0, number(2, u64::from(extra)))
+        Pieces::with_code(
+            true,
+            Width::W32,
+            plain(0xC2),
+            0,
+            number(2, u64::from(extra)),
+        )
     }
 }
 
@@ -343,13 +408,30 @@ pub fn pieces(no_rex: bool, instr: Instr) -> Pieces
             let opcode = escaped(zx_byte(from));
             Pieces::with_place(no_rex, w, opcode, dst, to_place(src), NOTHING)
         }
-        Instr::Sx { from, w, dst, src } =>
-            Pieces::with_place(no_rex, w, sx_opcode(from), dst, to_place(src), NOTHING),
-        Instr::Lea { w, dst, mem } =>
-            Pieces::with_place(no_rex, w, plain(0x8D), dst, Place::Mem(mem), NOTHING),
+        Instr::Sx { from, w, dst, src } => Pieces::with_place(
+            no_rex,
+            w,
+            sx_opcode(from),
+            dst,
+            to_place(src),
+            NOTHING,
+        ),
+        Instr::Lea { w, dst, mem } => Pieces::with_place(
+            no_rex,
+            w,
+            plain(0x8D),
+            dst,
+            Place::Mem(mem),
+            NOTHING,
+        ),
         Instr::Push { src } => push_pieces(no_rex, src),
-        Instr::Pop { dst } =>
-            Pieces::with_code(no_rex, Width::W32, plain(0x58 + dst % 8), dst, NOTHING),
+        Instr::Pop { dst } => Pieces::with_code(
+            no_rex,
+            Width::W32,
+            plain(0x58 + dst % 8),
+            dst,
+            NOTHING,
+        ),
         Instr::One { op, w, dst } => {
             let opcode = plain(one_byte(op) + wide_bit(w));
             Pieces::with_place(no_rex, w, opcode, one_number(op), to_place(dst), NOTHING)
@@ -380,11 +462,23 @@ pub fn pieces(no_rex: bool, instr: Instr) -> Pieces
             jump_pieces(near, escaped(0x80 + cond_code(cc)), rel)
         }
         Instr::Jmp { rel } => jump_pieces(plain(0xEB), plain(0xE9), rel),
-        Instr::JmpTo { src } =>
-            Pieces::with_place(no_rex, Width::W32, plain(0xFF), 4, to_place(src), NOTHING),
+        Instr::JmpTo { src } => Pieces::with_place(
+            no_rex,
+            Width::W32,
+            plain(0xFF),
+            4,
+            to_place(src),
+            NOTHING,
+        ),
         Instr::Call { rel } => call_pieces(rel),
-        Instr::CallTo { src } =>
-            Pieces::with_place(no_rex, Width::W32, plain(0xFF), 2, to_place(src), NOTHING),
+        Instr::CallTo { src } => Pieces::with_place(
+            no_rex,
+            Width::W32,
+            plain(0xFF),
+            2,
+            to_place(src),
+            NOTHING,
+        ),
         Instr::Ret { extra } => ret_pieces(extra),
         Instr::Leave => alone(plain(0xC9)),
         Instr::Nop => alone(plain(0x90)),
@@ -393,10 +487,22 @@ pub fn pieces(no_rex: bool, instr: Instr) -> Pieces
             let opcode = behind_escaped(Some(REP), 0x1E);
             Pieces::with_place(true, Width::W32, opcode, 7, Place::Reg(2), NOTHING)
         }
-        Instr::Mfence =>
-            Pieces::with_place(true, Width::W32, escaped(0xAE), 6, Place::Reg(0), NOTHING),
-        Instr::LockAlu { op, w, mem, src } =>
-            alu_pieces(no_rex, Some(LOCK), op, w, Operand::Mem(mem), src),
+        Instr::Mfence => Pieces::with_place(
+            true,
+            Width::W32,
+            escaped(0xAE),
+            6,
+            Place::Reg(0),
+            NOTHING,
+        ),
+        Instr::LockAlu { op, w, mem, src } => alu_pieces(
+            no_rex,
+            Some(LOCK),
+            op,
+            w,
+            Operand::Mem(mem),
+            src,
+        ),
         Instr::LockOne { op, w, mem } => {
             let opcode = behind(Some(LOCK), one_byte(op) + wide_bit(w));
             Pieces::with_place(no_rex, w, opcode, one_number(op), Place::Mem(mem), NOTHING)

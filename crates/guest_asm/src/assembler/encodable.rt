@@ -379,7 +379,10 @@ pub fn typed(instr: Instr)
         | Instr::LockOne { mem, .. }
         | Instr::Xadd { mem, .. }
         | Instr::Cmpxchg { mem, .. } => mem_typed(mem),
-        Instr::Jcc { rel: _, .. } | Instr::Jmp { rel: _ } | Instr::Call { rel: _ } | Instr::Ret { extra: _ } => (),
+        Instr::Jcc { rel: _, .. }
+        | Instr::Jmp { rel: _ }
+        | Instr::Call { rel: _ }
+        | Instr::Ret { extra: _ } => (),
         Instr::Pop { .. }
         | Instr::Widen { .. }
         | Instr::Spread { .. }

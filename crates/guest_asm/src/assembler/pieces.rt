@@ -5,9 +5,7 @@ ghost use Rattle.x86_forms.specs.Spelling.{bytes_of};
 ghost use Rattle.guest_asm.specs.Places.{optional};
 ghost use Rattle.guest_asm.specs.Pieces.{is_16, w_of, rex_of, with_place, with_code, number_bytes, only_if, parts_of};
 
-use crate::assembler::place::{
-    base_bit, displacement, index_bit, modrm_of, sib_part,
-};
+use crate::assembler::place::{base_bit, displacement, index_bit, modrm_of, sib_part};
 use std::alloc::{AllocError, Global};
 use x86_forms::{Place, Width};
 

@@ -131,7 +131,13 @@ fn low_of(place: Place) -> u8
 {
     match place {
         Place::Reg(n) => n % 8,
-        Place::Mem(mem) => { if needs_sib(mem) { 4 } else { base_low(mem.base) } }
+        Place::Mem(mem) => {
+            if needs_sib(mem) {
+                4
+            } else {
+                base_low(mem.base)
+            }
+        }
     }
 }
 
@@ -168,7 +174,13 @@ pub fn sib_part(place: Place) -> Option<u8>
 {
     match place {
         Place::Reg(_) => None,
-        Place::Mem(mem) => { if needs_sib(mem) { Some(sib_of(mem)) } else { None } }
+        Place::Mem(mem) => {
+            if needs_sib(mem) {
+                Some(sib_of(mem))
+            } else {
+                None
+            }
+        }
     }
 }
 
