@@ -1,7 +1,8 @@
 //! The assembler.
 
-ghost use Rattle.std.specs.Prelude.{◌≡◌, IfOk, IfSome, IfNone};
+ghost use Rattle.std.specs.Prelude.{◌≡◌, true, IfOk, IfSome, IfNone};
 ghost use Rattle.x86_forms.specs.Spelling.{Spells};
+ghost use Rattle.guest_asm.specs.Encodable.{can};
 ghost use Rattle.guest_asm.specs.Assembling.{HasNoSpelling};
 
 mod choices;
@@ -15,6 +16,21 @@ use crate::assembler::encodable::{can, typed};
 use std::alloc::{AllocError, Global};
 use x86_forms::Instr;
 
+// Whether the instruction is written without a REX byte, where it has a spelling: without one if it
+// can be.
+fn without_rex(instr: Instr) -> Option<bool>
+    ensures taken { IfSome result (λ no_rex. can no_rex instr ≡ true) }
+    ensures none { IfNone result (HasNoSpelling instr) }
+{
+    if can(true, instr) {
+        Some(true)
+    } else if can(false, instr) {
+        Some(false)
+    } else {
+        None
+    }
+}
+
 /// A byte string that spells the instruction, at most 15 bytes, or `None` where no string does: where
 /// a register's number is 16 or more, an immediate does not fit, an operand is of a kind that the
 /// instruction does not take, or AH to BH would stand beside what only a REX byte names (Intel SDM,
@@ -26,11 +42,11 @@ pub fn assemble(alloc: Global, instr: &Instr) -> Result<Option<Vec<u8>>, AllocEr
 {
     let instr = *instr;
     typed(instr);
-    if can(true, instr) {
-        Ok(Some(pieces(true, instr).bytes(alloc)?))
-    } else if can(false, instr) {
-        Ok(Some(pieces(false, instr).bytes(alloc)?))
-    } else {
-        Ok(None)
+    match without_rex(instr) {
+        None => Ok(None),
+        Some(no_rex) => {
+            let bytes = pieces(no_rex, instr).bytes(alloc)?;
+            Ok(Some(bytes))
+        }
     }
 }
