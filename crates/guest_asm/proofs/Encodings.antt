@@ -1,5 +1,5 @@
 -- What is put together with ModRM, or without, spells what its row says.
-use Rattle.std.proofs.Common.{◌≡◌, ℕ, ◌+◌, ◌*◌, ◌/◌, ◌%◌, ◌<◌, ◌≤◌, Bool, true, false, List, [], ◌∷◌, ◌++◌, inl, inr, length, Option, Some, None, refl, sym, ap, subst, arith, ◌∙◌, length-append}
+use Rattle.std.proofs.Common.{◌≡◌, ℕ, ◌+◌, ◌*◌, ◌/◌, ◌%◌, ◌<◌, ◌≤◌, Bool, true, false, List, [], ◌++◌, inl, inr, length, Some, None, refl, arith, ◌∙◌, length-append}
 use Rattle.std.specs.Prelude.{nat_eq}
 use Rattle.x86_forms.specs.declared.operands.Width.{Width}
 use Rattle.std.proofs.lemmas.Bool.{cases_Bool}
@@ -11,16 +11,16 @@ use Rattle.x86_forms.specs.declared.operands.Operand.TheVariants as operand
 use Rattle.x86_forms.specs.declared.operands.Place.{Place}
 use Rattle.x86_forms.specs.declared.instructions.Instr.{Instr}
 use Rattle.x86_forms.specs.declared.rows.Row.{Row}
-use Rattle.x86_forms.specs.Operands.{byte, signed, displacement, rex_w, rex_r, rex_x, rex_b, middle_field, place_of, register, operand_of, width_of, tail_len, at_width}
-use Rattle.x86_forms.specs.Spelling.{Parts, bytes_of, Spells, escape_bytes, modrm_len, mark_of, sib_len, disp_size, is_asked, operands_of, instr_of, rm_width, meaning, allows, allows_rex, is_narrowed, are_bytes}
+use Rattle.x86_forms.specs.Operands.{byte, signed, displacement, rex_w, rex_r, rex_b, middle_field, place_of, register, operand_of, width_of, tail_len, at_width}
+use Rattle.x86_forms.specs.Spelling.{bytes_of, Spells, mark_of, operands_of, instr_of, rm_width, meaning, allows, allows_rex, is_narrowed, are_bytes}
 use Rattle.x86_forms.specs.Reading.{find_row}
 use Rattle.guest_asm.specs.declared.assembler.pieces.Number.{Number}
 use Rattle.guest_asm.specs.declared.assembler.pieces.Opcode.{Opcode}
-use Rattle.guest_asm.specs.Places.{optional, low_bytes, modrm_of, b_of, x_of, sib_part, reg_disp_mode, disp_bits, mode_len, base_disp_len, disp_len_of, bits_of, below, place_can}
-use Rattle.guest_asm.specs.Pieces.{is_16, w_of, rex_of, number_bytes, with_place, with_code, narrow_bytes, parts_of, marks_can}
-use Rattle.guest_asm.proofs.PlacesMade.{DispFits, place_made, PlaceMade}
+use Rattle.guest_asm.specs.Places.{optional, modrm_of, b_of, x_of, sib_part, reg_disp_mode, disp_bits, mode_len, base_disp_len, disp_len_of, bits_of, below, place_can}
+use Rattle.guest_asm.specs.Pieces.{is_16, w_of, number_bytes, with_place, with_code, narrow_bytes, parts_of, marks_can}
+use Rattle.guest_asm.proofs.PlacesMade.{DispFits, place_made}
 use Rattle.guest_asm.proofs.Found.{Finds, found_at}
-use Rattle.guest_asm.proofs.Spelled.{RowFacts, Formed, spell, low_length, low_are_bytes, bytes_both, one_byte, some_byte, optional_short, narrow_short, narrow_are_bytes, escape_short, escape_are_bytes, Bit, RexMade, rex_made, zero_bit, below_bit, place_bits}
+use Rattle.guest_asm.proofs.Spelled.{RowFacts, spell, low_length, low_are_bytes, bytes_both, one_byte, some_byte, optional_short, narrow_short, narrow_are_bytes, escape_short, escape_are_bytes, rex_made, zero_bit, below_bit, place_bits}
 
 -- what a row asks of prefixes, width and immediate
 pub record Fit (row : Row) (no_rex : Bool) (marks w : Width) (o : Opcode) (imm : Number) : Type 0 where

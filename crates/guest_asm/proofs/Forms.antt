@@ -1,31 +1,28 @@
 -- What is put together for an operand, by the prefixes and widths of its row.
-use Rattle.std.proofs.Common.{◌≡◌, ℕ, ◌+◌, ◌*◌, ◌/◌, ◌%◌, ◌<◌, ◌≤◌, Bool, true, false, cond, List, [], ◌∷◌, ◌++◌, length, take, Option, Some, None, refl, sym, ap, subst, arith, ◌∙◌, eq-eqb}
-use Rattle.std.specs.Prelude.{nat_eq, not}
+use Rattle.std.proofs.Common.{◌≡◌, ℕ, ◌+◌, ◌*◌, ◌%◌, ◌<◌, ◌≤◌, Bool, true, false, List, [], ◌∷◌, ◌++◌, length, Some, None, refl, subst, arith}
 use Rattle.std.proofs.lemmas.Bool.{both_ways, cond_both}
 use Rattle.std.proofs.Math.Seq.{take-length}
 use Rattle.x86_forms.specs.declared.operands.Width.{Width}
 use Rattle.x86_forms.specs.declared.operands.Width.TheVariants.{W8, W16, W32, W64}
 use Rattle.x86_forms.specs.declared.operands.Operand.{Operand}
-use Rattle.x86_forms.specs.declared.operands.Operand.TheVariants as operand
 use Rattle.x86_forms.specs.declared.instructions.AluOp.{AluOp}
 use Rattle.x86_forms.specs.declared.instructions.AluOp.TheVariants as alu
 use Rattle.x86_forms.specs.declared.instructions.OneOp.{OneOp}
 use Rattle.x86_forms.specs.declared.instructions.OneOp.TheVariants as one
 use Rattle.x86_forms.specs.declared.instructions.Instr.{Instr}
-use Rattle.x86_forms.specs.declared.rows.Prefixes.{Prefixes}
-use Rattle.x86_forms.specs.declared.rows.Prefixes.TheVariants.{Sized, Bare, Locked, Track}
+use Rattle.x86_forms.specs.declared.rows.Prefixes.TheVariants.{Sized, Locked}
 use Rattle.x86_forms.specs.declared.rows.Rex.{Rex}
 use Rattle.x86_forms.specs.declared.rows.Rex.TheVariants as rex
-use Rattle.x86_forms.specs.declared.rows.Size.TheVariants.{B, V, D, Q}
+use Rattle.x86_forms.specs.declared.rows.Size.TheVariants.{V, D, Q}
 use Rattle.x86_forms.specs.declared.rows.Row.{Row}
-use Rattle.x86_forms.specs.Operands.{byte, rex_w, register, width_of, tail_len}
+use Rattle.x86_forms.specs.Operands.{register, width_of, tail_len}
 use Rattle.x86_forms.specs.Spelling.{bytes_of, Spells, operands_of, instr_of, rm_width, allows, allows_rex, is_narrowed, are_bytes}
 use Rattle.x86_forms.specs.Reading.{read}
 use Rattle.x86_forms.proofs.Sound.{sound}
 use Rattle.guest_asm.specs.declared.assembler.pieces.Number.{Number}
 use Rattle.guest_asm.specs.declared.assembler.pieces.Opcode.{Opcode}
-use Rattle.guest_asm.specs.Places.{optional, below}
-use Rattle.guest_asm.specs.Pieces.{is_16, w_of, number_bytes, with_place, with_code, narrow_bytes, parts_of, marks_can}
+use Rattle.guest_asm.specs.Places.{below}
+use Rattle.guest_asm.specs.Pieces.{is_16, w_of, number_bytes, with_place, narrow_bytes, parts_of, marks_can}
 use Rattle.guest_asm.specs.Encodable.{rm_can, is_wide, is_over8, is_test, OperandTyped}
 use Rattle.guest_asm.specs.Choices.{to_place, wide_bit, alu_number, store_byte, load_byte, acc_byte, group_byte, one_byte}
 use Rattle.guest_asm.proofs.Found.{Finds, size_for}

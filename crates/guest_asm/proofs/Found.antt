@@ -1,5 +1,5 @@
 -- Which row of the table is found for each opcode that the assembler writes.
-use Rattle.std.proofs.Common.{◌≡◌, ℕ, zero, suc, ◌+◌, ◌*◌, ◌%◌, ◌<◌, Bool, true, false, cond, Option, Some, None, refl, arith, subst}
+use Rattle.std.proofs.Common.{◌≡◌, ℕ, zero, suc, ◌+◌, ◌%◌, ◌<◌, Bool, true, false, cond, Some, refl, arith}
 use Rattle.std.specs.Prelude.{nat_eq}
 use Rattle.std.proofs.lemmas.Bool.{both_ways}
 use Rattle.x86_forms.specs.declared.operands.Width.{Width}
@@ -19,7 +19,6 @@ use Rattle.x86_forms.specs.declared.rows.Size.TheVariants.{B, V, D, Q}
 use Rattle.x86_forms.specs.declared.rows.Tail.{Tail}
 use Rattle.x86_forms.specs.declared.rows.Tail.TheVariants.{Nothing, Ib, Iz, Iv, Iw, Rel8, Rel32}
 use Rattle.x86_forms.specs.declared.rows.Shape.TheVariants.{RmReg, RegRm, RmImm, AccImm, CodeImm, CodeAcc, Rm, Imm}
-use Rattle.x86_forms.specs.declared.rows.Kind.{Kind}
 use Rattle.x86_forms.specs.declared.rows.Kind.TheVariants as kind
 use Rattle.x86_forms.specs.declared.rows.Row.{Row}
 use Rattle.x86_forms.specs.Table.{table, rm, no, asking}

@@ -1,14 +1,11 @@
 -- What is put together for an instruction that the assembler takes spells it.
 use Rattle.std.proofs.Common.{◌≡◌, Bool, true}
-use Rattle.std.specs.Prelude.{not}
 use Rattle.std.proofs.lemmas.Bool.{and_parts}
-use Rattle.x86_forms.specs.declared.operands.Width.TheVariants.{W8, W64}
-use Rattle.x86_forms.specs.declared.operands.Operand.TheVariants as operand
 use Rattle.x86_forms.specs.declared.instructions.Instr.{Instr}
 use Rattle.x86_forms.specs.declared.instructions.Instr.TheVariants as instr
 use Rattle.guest_asm.specs.Places.{below, mem_can}
 use Rattle.guest_asm.specs.Pieces.{marks_can}
-use Rattle.guest_asm.specs.Encodable.{register_can, rm_can, value_can, pair_can, mov_can, imul_can, is_test, is_wide, is_over8, zx_can, sx_can, shift_can, can_lock, can_lock_one, can, Typed}
+use Rattle.guest_asm.specs.Encodable.{register_can, rm_can, value_can, imul_can, is_wide, is_over8, zx_can, sx_can, shift_can, can_lock, can_lock_one, can, Typed}
 use Rattle.guest_asm.specs.Choices.{pieces}
 use Rattle.guest_asm.proofs.Written.{Written, alu_written, lock_written}
 use Rattle.guest_asm.proofs.WrittenMov.{mov_written, zx_written, sx_written, lea_written, push_written, pop_written, xchg_written}

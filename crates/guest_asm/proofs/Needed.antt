@@ -1,5 +1,5 @@
 -- An instruction that has a spelling is one that the assembler takes.
-use Rattle.std.proofs.Common.{◌≡◌, ◌≢◌, ℕ, ◌+◌, ◌*◌, ◌%◌, ◌<◌, ◌≤◌, ℤ, Bool, true, false, cond, ◌&&◌, ◌||◌, List, [], ◌∷◌, ◌++◌, inl, inr, length, take, Option, Some, None, refl, sym, ap, subst, arith, ◌∙◌}
+use Rattle.std.proofs.Common.{◌≡◌, ℕ, ◌+◌, ◌*◌, ◌%◌, ◌<◌, Bool, true, false, ◌&&◌, List, [], ◌∷◌, ◌++◌, inl, inr, length, take, Option, Some, None, refl, sym, ap, subst, arith, ◌∙◌}
 use Rattle.std.specs.Prelude.{nat_eq, nat_lt, not}
 use Rattle.std.specs.List.{list_all}
 use Rattle.std.proofs.lemmas.Bool.{and_parts, and_from, both_ways, eq-eqb, lt-ltb, ltb-true, cases_Bool, not-true}
@@ -26,7 +26,7 @@ use Rattle.x86_forms.specs.declared.rows.Shape.TheVariants as shape
 use Rattle.x86_forms.specs.declared.rows.Kind.{Kind}
 use Rattle.x86_forms.specs.declared.rows.Kind.TheVariants as kind
 use Rattle.x86_forms.specs.declared.rows.Row.{Row}
-use Rattle.x86_forms.specs.Operands.{byte, unsigned, signed, displacement, rex_w, rex_r, rex_x, rex_b, middle_field, place_of, register, operand_of, width_of, tail_len, at_width}
+use Rattle.x86_forms.specs.Operands.{byte, unsigned, signed, displacement, rex_w, rex_r, rex_b, middle_field, place_of, register, operand_of, at_width}
 use Rattle.x86_forms.specs.Table.{Line, table}
 use Rattle.x86_forms.specs.Spelling.{Parts, bytes_of, are_bytes, operands_of, with_reg, with_mem, with_cond, lea, condition, instr_of, rm_width, meaning, Spells, is_narrowed}
 use Rattle.x86_forms.specs.Limits.{IsWide, IsOver8, Widens, ShiftFits, CanLock, CanLockOne, InstrFits}
@@ -34,7 +34,7 @@ use Rattle.x86_forms.proofs.Cuts.{pass_at}
 use Rattle.x86_forms.proofs.LimitLemmas.{spelled_fits}
 use Rattle.guest_asm.specs.Places.{below, mem_can}
 use Rattle.guest_asm.specs.Pieces.{is_64, marks_can}
-use Rattle.guest_asm.specs.Encodable.{reg_can, high_can, register_can, rm_can, imm_can, whole_imm_can, value_can, pair_can, mov_imm_can, mov_can, is_reg, imul_can, push_can, is_test, is_wide, is_over8, zx_can, sx_can, shift_can, can_lock, can_lock_one, can}
+use Rattle.guest_asm.specs.Encodable.{reg_can, high_can, register_can, rm_can, imm_can, whole_imm_can, value_can, pair_can, mov_imm_can, mov_can, imul_can, push_can, is_test, is_wide, is_over8, zx_can, sx_can, shift_can, can_lock, can_lock_one, can}
 use Rattle.guest_asm.specs.Assembling.{HasNoSpelling}
 use Rattle.guest_asm.proofs.Read.{no_rex_is_0, number_below, read_register, as_rm, read_place, read_rm, is_imm, read_whole, read_imm, is_q, is_b, q_64, b_8, read_marks}
 

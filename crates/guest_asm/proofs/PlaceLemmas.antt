@@ -1,20 +1,19 @@
 -- The bytes that are made for a register or for memory name it.
-use Rattle.std.proofs.Common.{◌≡◌, ◌≢◌, ℕ, zero, suc, ◌+◌, ◌-◌, ◌*◌, ◌/◌, ◌%◌, ◌^◌, ◌<◌, ◌≤◌, ℤ, pos, negsuc, Bool, true, false, cond, ◌&&◌, ◌||◌, List, [], ◌∷◌, ◌++◌, inl, inr, length, Option, Some, None, refl, sym, ap, subst, arith, ◌∙◌, ◌⊎◌}
-use Rattle.std.specs.Prelude.{nat_eq, nat_le, nat_lt, is_some, not}
-use Rattle.std.specs.Int.{w8, w16, w32, w64, cast_signed, cast_unsigned}
+use Rattle.std.proofs.Common.{◌≡◌, ℕ, suc, ◌+◌, ◌-◌, ◌*◌, ◌/◌, ◌%◌, ◌^◌, ◌<◌, ◌≤◌, ℤ, pos, negsuc, Bool, true, false, cond, ◌&&◌, [], inl, inr, Option, Some, None, refl, sym, ap, arith, ◌∙◌, ◌⊎◌}
+use Rattle.std.specs.Prelude.{nat_eq, nat_le, nat_lt, not}
+use Rattle.std.specs.Int.{w8, w32, cast_signed, cast_unsigned}
 use mir.Syntax.{Width}
 use mir.Val.{bits, hbits}
 use Rattle.std.specs.Int.RustNames.{FitsSigned}
 use Rattle.std.proofs.lemmas.Int.{ints, to_z-of_z}
-use Rattle.std.proofs.lemmas.Bool.{and_parts, or_cases, both_ways, eqb-true, eqb-false, ltb-true, lt-ltb, le-ltb, leb-true, ne_eqb, not-true, cases_Bool, cond_both}
+use Rattle.std.proofs.lemmas.Bool.{and_parts, or_cases, eqb-true, ltb-true, lt-ltb, le-ltb, leb-true, ne_eqb, not-true, cases_Bool}
 use Rattle.x86_forms.specs.declared.operands.Base.{Base}
 use Rattle.x86_forms.specs.declared.operands.Base.TheVariants as base
 use Rattle.x86_forms.specs.declared.operands.Mem.{Mem}
-use Rattle.x86_forms.specs.declared.operands.Place.{Place}
 use Rattle.x86_forms.specs.declared.operands.Place.TheVariants as place
-use Rattle.x86_forms.specs.Operands.{byte, unsigned, signed, displacement, rex_x, rex_b, high_field, middle_field, low_field, has_sib, is_baseless, disp_len, index_of, sib_base, sib_index, sib_scale, indexed, based, place_of}
+use Rattle.x86_forms.specs.Operands.{unsigned, signed, displacement, rex_x, rex_b, high_field, middle_field, low_field, has_sib, is_baseless, disp_len, index_of, sib_base, sib_index, sib_scale, indexed, based, place_of}
 use Rattle.x86_forms.specs.Spelling.{sib_len}
-use Rattle.guest_asm.specs.Places.{optional, low_bytes, is_short, reg_disp_mode, disp_mode, base_low, base_high, base_needs_sib, needs_sib, scale_bits, index_low, index_high, sib_of, disp_bits, high_of, low_of, modrm_of, b_of, x_of, sib_part, mode_len, base_disp_len, disp_len_of, bits_of, below, is_scale, index_can, base_can, mem_can, place_can}
+use Rattle.guest_asm.specs.Places.{low_bytes, is_short, reg_disp_mode, scale_bits, index_low, index_high, mode_len, below, is_scale, index_can}
 
 -- ---- displacements
 

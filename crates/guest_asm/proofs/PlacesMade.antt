@@ -1,18 +1,17 @@
 -- What is made for a place is read as that place.
-use Rattle.std.proofs.Common.{◌≡◌, ◌≢◌, ℕ, zero, suc, ◌+◌, ◌-◌, ◌*◌, ◌/◌, ◌%◌, ◌^◌, ◌<◌, ◌≤◌, ℤ, pos, Bool, true, false, cond, ◌&&◌, ◌||◌, List, [], ◌∷◌, ◌++◌, inl, inr, length, Option, Some, None, refl, sym, ap, subst, arith, ◌∙◌, ◌⊎◌}
-use Rattle.std.specs.Prelude.{nat_eq, nat_le, nat_lt, is_some, not}
+use Rattle.std.proofs.Common.{◌≡◌, ℕ, ◌+◌, ◌*◌, ◌/◌, ◌%◌, ◌<◌, ℤ, Bool, true, false, cond, List, inl, inr, length, Option, Some, None, refl, sym, subst, arith}
+use Rattle.std.specs.Prelude.{nat_eq, is_some}
 use Rattle.std.specs.Int.{w32, cast_unsigned}
 use Rattle.std.specs.Int.RustNames.{FitsSigned}
-use Rattle.std.proofs.lemmas.Bool.{and_parts, or_cases, both_ways, eqb-true, eqb-false, ne_eqb, not-true, cases_Bool}
+use Rattle.std.proofs.lemmas.Bool.{and_parts, both_ways, eqb-true, cases_Bool}
 use Rattle.x86_forms.specs.declared.operands.Base.{Base}
 use Rattle.x86_forms.specs.declared.operands.Base.TheVariants as base
-use Rattle.x86_forms.specs.declared.operands.Mem.{Mem}
 use Rattle.x86_forms.specs.declared.operands.Place.{Place}
 use Rattle.x86_forms.specs.declared.operands.Place.TheVariants as place
-use Rattle.x86_forms.specs.Operands.{byte, displacement, rex_x, rex_b, high_field, middle_field, low_field, has_sib, is_baseless, disp_len, sib_base, sib_index, sib_scale, place_of}
+use Rattle.x86_forms.specs.Operands.{byte, displacement, rex_x, rex_b, high_field, middle_field, low_field, has_sib, is_baseless, disp_len, sib_base, place_of}
 use Rattle.x86_forms.specs.Spelling.{sib_len}
-use Rattle.guest_asm.specs.Places.{optional, low_bytes, reg_disp_mode, disp_mode, base_low, base_high, base_needs_sib, needs_sib, scale_bits, index_low, index_high, sib_of, disp_bits, high_of, low_of, modrm_of, b_of, x_of, sib_part, mode_len, base_disp_len, disp_len_of, bits_of, below, index_can, base_can, mem_can, place_can}
-use Rattle.guest_asm.proofs.PlaceLemmas.{Fields, fields, below_16, whole, index_made, long_disp, mode_small, reg_disp_made, not_baseless_sib, not_baseless, reg_disp_len, memory, by_sib, by_modrm, sib_yes, sib_no}
+use Rattle.guest_asm.specs.Places.{optional, low_bytes, reg_disp_mode, base_high, base_needs_sib, scale_bits, index_low, index_high, sib_of, modrm_of, b_of, x_of, sib_part, mode_len, disp_len_of, bits_of, index_can, base_can, place_can}
+use Rattle.guest_asm.proofs.PlaceLemmas.{fields, index_made, long_disp, mode_small, reg_disp_made, not_baseless_sib, not_baseless, reg_disp_len, memory, by_sib, by_modrm, sib_yes, sib_no}
 
 -- the bytes made for a place and for a reg field
 abbrev pub sib_byte : Place → ℕ

@@ -1,5 +1,5 @@
 -- The low bytes of a number, one after another.
-use Rattle.std.proofs.Common.{◌≡◌, ℕ, zero, suc, ◌+◌, ◌-◌, ◌/◌, ◌%◌, ◌<◌, ◌≤◌, List, [], ◌∷◌, ◌++◌, refl, sym, ap, arith, ◌∙◌, append_assoc, append-nil}
+use Rattle.std.proofs.Common.{◌≡◌, ℕ, suc, ◌+◌, ◌-◌, ◌/◌, ◌%◌, ◌<◌, ◌≤◌, List, [], ◌∷◌, ◌++◌, arith, append_assoc, append-nil}
 use Rattle.guest_asm.specs.Places.{low_bytes}
 
 pub low_step : (xs : List ℕ) (n c r : ℕ) → c < n → (xs ++ (r % 256) ∷ []) ++ low_bytes (n - (c + 1)) (r / 256) ≡ xs ++ low_bytes (n - c) r

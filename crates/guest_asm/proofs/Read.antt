@@ -1,8 +1,8 @@
 -- What a spelling's bytes name is what the assembler takes.
-use Rattle.std.proofs.Common.{◌≡◌, ◌≢◌, ℕ, zero, suc, ◌+◌, ◌-◌, ◌*◌, ◌/◌, ◌%◌, ◌^◌, ◌<◌, ◌≤◌, ℤ, Bool, true, false, cond, ◌&&◌, ◌||◌, List, [], ◌∷◌, inl, inr, length, Option, Some, None, refl, sym, ap, subst, arith, ◌∙◌}
-use Rattle.std.specs.Prelude.{nat_eq, nat_le, nat_lt, is_some, not}
+use Rattle.std.proofs.Common.{◌≡◌, ℕ, zero, suc, ◌+◌, ◌-◌, ◌*◌, ◌%◌, ◌^◌, ◌<◌, ◌≤◌, ℤ, Bool, true, false, cond, ◌||◌, List, [], ◌∷◌, inl, inr, length, Some, refl, sym, ap, arith}
+use Rattle.std.specs.Prelude.{nat_eq, nat_le, nat_lt, is_some}
 use Rattle.std.specs.Int.{w8, w32, w64, cast_signed, cast_unsigned}
-use Rattle.std.proofs.lemmas.Bool.{and_parts, and_from, or_cases, or_from, both_ways, eqb-true, eqb-false, ltb-true, lt-ltb, le-leb, leb-true, cases_Bool, cond_both, not-true}
+use Rattle.std.proofs.lemmas.Bool.{and_from, both_ways, eqb-true, ltb-true, lt-ltb, le-leb, leb-true, cases_Bool, cond_both}
 use Rattle.std.proofs.lemmas.Option.{same_Some}
 use Rattle.x86_forms.specs.declared.operands.Width.{Width}
 use Rattle.x86_forms.specs.declared.operands.Width.TheVariants.{W8, W16, W32, W64}
@@ -16,10 +16,10 @@ use Rattle.x86_forms.specs.declared.rows.Size.{Size}
 use Rattle.x86_forms.specs.declared.rows.Size.TheVariants as size
 use Rattle.x86_forms.specs.declared.rows.Tail.{Tail}
 use Rattle.x86_forms.specs.declared.rows.Tail.TheVariants as tail
-use Rattle.x86_forms.specs.Operands.{byte, unsigned, signed, rex_w, rex_r, rex_x, rex_b, high_field, middle_field, low_field, is_baseless, index_of, sib_base, sib_index, sib_scale, indexed, based, place_of, register, operand_of, sized, width_of, tail_len, at_width}
-use Rattle.guest_asm.specs.Places.{below, is_scale, index_can, base_can, mem_can, place_can}
+use Rattle.x86_forms.specs.Operands.{byte, unsigned, signed, rex_w, rex_x, rex_b, high_field, middle_field, low_field, is_baseless, index_of, sib_index, sib_scale, indexed, based, place_of, register, operand_of, width_of, tail_len, at_width}
+use Rattle.guest_asm.specs.Places.{below, is_scale, index_can, base_can, place_can}
 use Rattle.guest_asm.specs.Pieces.{is_64, marks_can}
-use Rattle.guest_asm.specs.Encodable.{reg_can, high_can, register_can, rm_can, imm_can, whole_imm_can}
+use Rattle.guest_asm.specs.Encodable.{register_can, rm_can, imm_can, whole_imm_can}
 use Rattle.guest_asm.proofs.PlaceLemmas.{signed_low, signed_high}
 
 -- ---- registers

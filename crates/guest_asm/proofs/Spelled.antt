@@ -1,29 +1,23 @@
 -- Parts that a row of the table takes are a spelling.
-use Rattle.std.proofs.Common.{◌≡◌, ◌≢◌, ℕ, zero, suc, ◌+◌, ◌-◌, ◌*◌, ◌/◌, ◌%◌, ◌<◌, ◌≤◌, Bool, true, false, cond, ◌&&◌, List, [], ◌∷◌, ◌++◌, length, Option, Some, None, refl, sym, ap, subst, arith, ◌∙◌, length-append, eq-eqb}
-use Rattle.std.specs.Prelude.{nat_eq, nat_lt, not}
-use Rattle.std.specs.List.{list_all}
-use Rattle.std.proofs.lemmas.Bool.{and_parts, and_from, both_ways, ltb-true, lt-ltb, not-true}
+use Rattle.std.proofs.Common.{◌≡◌, ℕ, zero, suc, ◌+◌, ◌*◌, ◌/◌, ◌%◌, ◌<◌, ◌≤◌, Bool, true, false, List, [], ◌∷◌, ◌++◌, length, Option, Some, None, refl, sym, ap, subst, arith, ◌∙◌, eq-eqb}
+use Rattle.std.specs.Prelude.{nat_eq, nat_lt}
+use Rattle.std.proofs.lemmas.Bool.{and_parts, and_from, both_ways, ltb-true, lt-ltb}
 use Rattle.std.proofs.lemmas.List.Folds.{list_all-append}
 use Rattle.x86_forms.specs.declared.operands.Width.{Width}
 use Rattle.x86_forms.specs.declared.operands.Width.TheVariants.{W8, W16, W32, W64}
 use Rattle.x86_forms.specs.declared.operands.Base.TheVariants as base
-use Rattle.x86_forms.specs.declared.operands.Operand.{Operand}
-use Rattle.x86_forms.specs.declared.operands.Operand.TheVariants as operand
 use Rattle.x86_forms.specs.declared.operands.Place.{Place}
 use Rattle.x86_forms.specs.declared.operands.Place.TheVariants as place
 use Rattle.x86_forms.specs.declared.operands.Base.{Base}
 use Rattle.x86_forms.specs.declared.instructions.Instr.{Instr}
 use Rattle.x86_forms.specs.declared.rows.Row.{Row}
-use Rattle.x86_forms.specs.Operands.{byte, signed, displacement, is_rex, rex_w, rex_r, rex_x, rex_b, middle_field, disp_len, place_of, register, operand_of, width_of, tail_len, at_width}
-use Rattle.x86_forms.specs.Table.{Line, same, table}
-use Rattle.x86_forms.specs.Spelling.{Parts, bytes_of, HasForm, Spells, escape_bytes, modrm_len, covers, mark_of, sib_len, disp_size, is_asked, is_rex_part, operands_of, instr_of, rm_width, meaning, allows, allows_rex, is_narrowed, are_bytes}
+use Rattle.x86_forms.specs.Operands.{byte, rex_w, rex_r, rex_x, rex_b, middle_field, width_of, tail_len}
+use Rattle.x86_forms.specs.Table.{same}
+use Rattle.x86_forms.specs.Spelling.{Parts, bytes_of, Spells, escape_bytes, modrm_len, covers, mark_of, sib_len, disp_size, is_asked, is_rex_part, meaning, allows, allows_rex, is_narrowed, are_bytes}
 use Rattle.x86_forms.specs.Reading.{find_row}
 use Rattle.x86_forms.proofs.TableLemmas.{covers_parts, row_found}
-use Rattle.guest_asm.specs.declared.assembler.pieces.Number.{Number}
-use Rattle.guest_asm.specs.declared.assembler.pieces.Opcode.{Opcode}
-use Rattle.guest_asm.specs.Places.{optional, low_bytes, base_high, index_high, modrm_of, b_of, x_of, sib_part, disp_len_of, bits_of, below, base_can, index_can, mem_can, place_can}
-use Rattle.guest_asm.specs.Pieces.{is_16, is_64, w_of, rex_of, number_bytes, with_place, with_code, narrow_bytes, parts_of, marks_can}
-use Rattle.guest_asm.proofs.PlacesMade.{DispFits, place_made}
+use Rattle.guest_asm.specs.Places.{optional, low_bytes, base_high, index_high, b_of, x_of, below, base_can, index_can, place_can}
+use Rattle.guest_asm.specs.Pieces.{w_of, rex_of, narrow_bytes, marks_can}
 
 -- ---- a row's parts
 

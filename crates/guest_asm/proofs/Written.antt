@@ -1,6 +1,6 @@
 -- What is chosen for an instruction is a spelling of it.
-use Rattle.std.proofs.Common.{◌≡◌, ℕ, ◌+◌, ◌*◌, ◌/◌, ◌%◌, ◌^◌, ◌<◌, ◌≤◌, Bool, true, false, cond, ◌&&◌, List, [], ◌∷◌, ◌++◌, inl, inr, length, Option, Some, None, refl, sym, ap, subst, arith, ◌∙◌}
-use Rattle.std.specs.Prelude.{nat_eq, not}
+use Rattle.std.proofs.Common.{◌≡◌, ℕ, ◌%◌, ◌^◌, ◌<◌, ◌≤◌, Bool, true, false, inl, inr, None, refl, sym, ap, subst, arith}
+use Rattle.std.specs.Prelude.{not}
 use Rattle.std.proofs.lemmas.Bool.{and_parts, both_ways, cases_Bool, not-true, eqb-true}
 use Rattle.x86_forms.specs.declared.operands.Width.{Width}
 use Rattle.x86_forms.specs.declared.operands.Width.TheVariants.{W8, W16, W32, W64}
@@ -8,22 +8,21 @@ use Rattle.x86_forms.specs.declared.operands.Mem.{Mem}
 use Rattle.x86_forms.specs.declared.operands.Operand.{Operand}
 use Rattle.x86_forms.specs.declared.operands.Operand.TheVariants as operand
 use Rattle.x86_forms.specs.declared.instructions.AluOp.{AluOp}
-use Rattle.x86_forms.specs.declared.instructions.AluOp.TheVariants as alu
 use Rattle.x86_forms.specs.declared.instructions.Instr.{Instr}
 use Rattle.x86_forms.specs.declared.instructions.Instr.TheVariants as instr
-use Rattle.x86_forms.specs.declared.rows.Prefixes.TheVariants.{Sized, Bare, Locked, Track}
-use Rattle.x86_forms.specs.declared.rows.Tail.TheVariants.{Nothing, Ib, Iz, Iv, Iw, Rel8, Rel32}
-use Rattle.x86_forms.specs.declared.rows.Size.TheVariants.{B, V, D, Q}
-use Rattle.x86_forms.specs.declared.rows.Shape.TheVariants.{RmReg, RegRm, RmImm, AccImm, CodeImm, CodeAcc, Rm, Imm}
+use Rattle.x86_forms.specs.declared.rows.Prefixes.TheVariants.{Sized, Locked}
+use Rattle.x86_forms.specs.declared.rows.Tail.TheVariants.{Nothing, Ib}
+use Rattle.x86_forms.specs.declared.rows.Size.TheVariants.{V}
+use Rattle.x86_forms.specs.declared.rows.Shape.TheVariants.{RmReg, RegRm, RmImm, AccImm}
 use Rattle.x86_forms.specs.declared.rows.Kind.TheVariants as kind
-use Rattle.x86_forms.specs.Operands.{signed, register, tail_len, at_width}
-use Rattle.x86_forms.specs.Table.{rm, no, asking}
+use Rattle.x86_forms.specs.Operands.{tail_len}
+use Rattle.x86_forms.specs.Table.{rm, no}
 use Rattle.x86_forms.specs.Spelling.{bytes_of, Spells, operands_of, instr_of, rm_width}
 use Rattle.guest_asm.specs.declared.assembler.pieces.Pieces.{Pieces}
-use Rattle.guest_asm.specs.Places.{low_bytes, below, mem_can}
+use Rattle.guest_asm.specs.Places.{mem_can}
 use Rattle.guest_asm.specs.Pieces.{number, with_place, with_code, parts_of, marks_can}
-use Rattle.guest_asm.specs.Encodable.{reg_can, high_can, register_can, rm_can, imm_can, whole_imm_can, value_can, pair_can, is_test, is_over8, can_lock, OperandTyped}
-use Rattle.guest_asm.specs.Choices.{nothing, plain, escaped, behind, number_of, to_place, is_acc, is_short_imm, imm_bytes, alu_number, store_byte, load_byte, acc_byte, group_byte, takes_short, alu_imm, alu_pieces, lock}
+use Rattle.guest_asm.specs.Encodable.{reg_can, high_can, register_can, rm_can, imm_can, value_can, pair_can, is_test, is_over8, can_lock, OperandTyped}
+use Rattle.guest_asm.specs.Choices.{nothing, plain, behind, number_of, to_place, is_acc, is_short_imm, imm_bytes, alu_number, store_byte, load_byte, acc_byte, group_byte, takes_short, alu_imm, alu_pieces, lock}
 use Rattle.guest_asm.proofs.Found.{size_for, tail_for, find_store, find_load, find_acc, find_group, find_short, find_lock_store, find_lock_group, find_lock_short}
 use Rattle.guest_asm.proofs.Encodings.{spells_code}
 use Rattle.guest_asm.proofs.OperandLemmas.{register_is, digit_below, imm_is, short_imm}

@@ -1,14 +1,12 @@
 -- What is chosen for MOV, PUSH, POP, MOVZX, MOVSX, LEA and XCHG is a spelling.
-use Rattle.std.proofs.Common.{◌≡◌, ℕ, ◌+◌, ◌*◌, ◌/◌, ◌%◌, ◌^◌, ◌<◌, ◌≤◌, Bool, true, false, cond, ◌&&◌, List, [], ◌∷◌, ◌++◌, inl, inr, length, Option, Some, None, refl, sym, ap, subst, arith, ◌∙◌, eq-eqb}
-use Rattle.std.specs.Prelude.{nat_eq, not}
-use Rattle.std.proofs.lemmas.Bool.{and_parts, both_ways, cases_Bool, not-true, eqb-true, lt-ltb, ltb-true}
+use Rattle.std.proofs.Common.{◌≡◌, ℕ, ◌+◌, ◌*◌, ◌/◌, ◌%◌, ◌^◌, ◌<◌, ◌≤◌, Bool, true, false, inl, inr, refl, sym, subst, arith, eq-eqb}
+use Rattle.std.proofs.lemmas.Bool.{and_parts, both_ways, cases_Bool, not-true, lt-ltb, ltb-true}
 use Rattle.x86_forms.specs.declared.operands.Width.{Width}
 use Rattle.x86_forms.specs.declared.operands.Width.TheVariants.{W8, W16, W32, W64}
 use Rattle.x86_forms.specs.declared.operands.Mem.{Mem}
 use Rattle.x86_forms.specs.declared.operands.Operand.{Operand}
 use Rattle.x86_forms.specs.declared.operands.Operand.TheVariants as operand
 use Rattle.x86_forms.specs.declared.operands.Place.TheVariants as place
-use Rattle.x86_forms.specs.declared.instructions.Instr.{Instr}
 use Rattle.x86_forms.specs.declared.instructions.Instr.TheVariants as instr
 use Rattle.x86_forms.specs.declared.rows.Prefixes.TheVariants.{Sized, Bare}
 use Rattle.x86_forms.specs.declared.rows.Rex.TheVariants as rex
@@ -19,14 +17,13 @@ use Rattle.x86_forms.specs.declared.rows.Kind.TheVariants as kind
 use Rattle.x86_forms.specs.Operands.{byte, rex_w, signed, register, width_of, tail_len, at_width}
 use Rattle.x86_forms.specs.Widths.{bytes_in}
 use Rattle.x86_forms.specs.Table.{rm, no, asking}
-use Rattle.x86_forms.specs.Spelling.{bytes_of, Spells, operands_of, instr_of, rm_width, allows, allows_rex, is_narrowed}
-use Rattle.guest_asm.specs.declared.assembler.pieces.Pieces.{Pieces}
+use Rattle.x86_forms.specs.Spelling.{operands_of, instr_of, rm_width, allows, allows_rex, is_narrowed}
 use Rattle.guest_asm.specs.Places.{low_bytes, below, mem_can}
-use Rattle.guest_asm.specs.Pieces.{is_16, is_64, w_of, number, with_place, with_code, parts_of, marks_can}
-use Rattle.guest_asm.specs.Encodable.{reg_can, high_can, register_can, rm_can, imm_can, whole_imm_can, mov_imm_can, mov_can, push_can, is_over8, is_wide, zx_can, sx_can, OperandTyped, MemTyped}
+use Rattle.guest_asm.specs.Pieces.{number, with_place, with_code, marks_can}
+use Rattle.guest_asm.specs.Encodable.{reg_can, high_can, register_can, rm_can, imm_can, whole_imm_can, mov_imm_can, mov_can, push_can, is_over8, zx_can, sx_can, OperandTyped, MemTyped}
 use Rattle.guest_asm.specs.Choices.{nothing, plain, escaped, number_of, to_place, is_acc, wide_bit, is_short_imm, imm_bytes, mov_reg_imm, mov_imm, mov_pieces, zx_byte, sx_opcode, push_pieces, has_code, is_exchange, xchg_pieces}
 use Rattle.guest_asm.proofs.Found.{size_for, tail_for, find_mov_store, find_mov_load, find_mov_imm, find_mov8, find_mov, find_push_code, find_pop, find_push, find_push8, find_push32, find_zx8, find_zx16, find_sx8, find_sx16, find_sx32, find_lea, find_xchg, find_xchg_code}
-use Rattle.guest_asm.proofs.Encodings.{Fit, spells_code}
+use Rattle.guest_asm.proofs.Encodings.{spells_code}
 use Rattle.guest_asm.proofs.OperandLemmas.{reg_is, high_is, register_is, digit_below, imm_is, whole_imm, short_imm}
 use Rattle.guest_asm.proofs.Forms.{place_form, sized_fit, bare_fit, size_is, v_is, d_is, wide_over8, wide_small}
 use Rattle.guest_asm.proofs.Written.{Written, imm_len, imm_small, acc_is}

@@ -1,9 +1,9 @@
 -- What is chosen for the other instructions is a spelling.
-use Rattle.std.proofs.Common.{◌≡◌, ℕ, ◌+◌, ◌*◌, ◌/◌, ◌%◌, ◌^◌, ◌<◌, ◌≤◌, ℤ, Bool, true, false, cond, ◌&&◌, List, [], ◌∷◌, ◌++◌, inl, inr, length, take, Option, Some, None, refl, sym, ap, subst, arith, ◌∙◌, eq-eqb}
-use Rattle.std.specs.Prelude.{nat_eq, not, slice_get}
+use Rattle.std.proofs.Common.{◌≡◌, ℕ, ◌+◌, ◌%◌, ◌^◌, ◌<◌, ℤ, Bool, true, false, cond, inl, inr, Option, Some, None, refl, sym, ap, subst, arith}
+use Rattle.std.specs.Prelude.{nat_eq, slice_get}
 use Rattle.std.specs.Int.{w32, cast_unsigned}
 use Rattle.std.specs.Int.RustNames.{FitsSigned}
-use Rattle.std.proofs.lemmas.Bool.{and_parts, both_ways, cases_Bool, not-true, eqb-true}
+use Rattle.std.proofs.lemmas.Bool.{and_parts, both_ways, cases_Bool, eqb-true}
 use Rattle.x86_forms.specs.declared.operands.Width.{Width}
 use Rattle.x86_forms.specs.declared.operands.Width.TheVariants.{W8, W16, W32, W64}
 use Rattle.x86_forms.specs.declared.operands.Mem.{Mem}
@@ -16,31 +16,27 @@ use Rattle.x86_forms.specs.declared.instructions.OneOp.{OneOp}
 use Rattle.x86_forms.specs.declared.instructions.OneOp.TheVariants as one
 use Rattle.x86_forms.specs.declared.instructions.ShiftOp.{ShiftOp}
 use Rattle.x86_forms.specs.declared.instructions.ShiftOp.TheVariants.{Shl, Shr, Sar, Rol, Ror}
-use Rattle.x86_forms.specs.declared.instructions.Instr.{Instr}
 use Rattle.x86_forms.specs.declared.instructions.Instr.TheVariants as instr
 use Rattle.x86_forms.specs.declared.rows.Prefixes.TheVariants.{Sized, Bare, Locked, Track}
 use Rattle.x86_forms.specs.declared.rows.Rex.TheVariants as rex
 use Rattle.x86_forms.specs.declared.rows.Tail.TheVariants.{Nothing, Ib, Iz, Iw, Rel8, Rel32}
-use Rattle.x86_forms.specs.declared.rows.Size.TheVariants.{B, V, D, Q}
+use Rattle.x86_forms.specs.declared.rows.Size.TheVariants.{B, D, Q}
 use Rattle.x86_forms.specs.declared.rows.Shape.TheVariants.{RmReg, RegRm, Rm, Imm}
-use Rattle.x86_forms.specs.declared.rows.Kind.{Kind}
 use Rattle.x86_forms.specs.declared.rows.Kind.TheVariants as kind
-use Rattle.x86_forms.specs.declared.rows.Row.{Row}
 use Rattle.x86_forms.specs.Conditions.{conditions}
-use Rattle.x86_forms.specs.Operands.{byte, unsigned, signed, displacement, has_sib, is_baseless, disp_len, indexed, based, place_of, register, operand_of, width_of, tail_len, at_width}
+use Rattle.x86_forms.specs.Operands.{unsigned, signed, displacement, has_sib, is_baseless, disp_len, indexed, based, place_of, register, operand_of, width_of, tail_len, at_width}
 use Rattle.x86_forms.specs.Table.{table, rm, no, asking}
-use Rattle.x86_forms.specs.Spelling.{bytes_of, Spells, operands_of, instr_of, rm_width, meaning, covers, allows, allows_rex, is_narrowed, with_cond}
+use Rattle.x86_forms.specs.Spelling.{bytes_of, operands_of, instr_of, rm_width, meaning, covers, allows, allows_rex, is_narrowed}
 use Rattle.x86_forms.specs.Reading.{cut, prefix_count, rex_len, escape_len, mark_in, find_line, find_row, read_head, row_at, read_operands, width_at, read_instr, read}
-use Rattle.guest_asm.specs.declared.assembler.pieces.Pieces.{Pieces}
 use Rattle.guest_asm.specs.Places.{low_bytes, below, mem_can, is_short}
 use Rattle.guest_asm.specs.Pieces.{is_16, w_of, number, with_place, with_code, parts_of, marks_can}
-use Rattle.guest_asm.specs.Encodable.{reg_can, high_can, register_can, rm_can, imm_can, imul_can, is_reg, shift_can, is_over8, is_wide, can_lock_one, OperandTyped, MemTyped, CountTyped}
+use Rattle.guest_asm.specs.Encodable.{reg_can, high_can, register_can, rm_can, imm_can, imul_can, is_reg, shift_can, is_wide, can_lock_one, OperandTyped, MemTyped, CountTyped}
 use Rattle.guest_asm.specs.Choices.{nothing, plain, escaped, behind, behind_escaped, number_of, to_place, wide_bit, is_short_imm, one_byte, one_number, imul_pieces, shift_number, shift_pieces, cond_code, jump_pieces, call_pieces, alone, ret_pieces, lock}
 use Rattle.guest_asm.proofs.Found.{size_for, find_one, find_mul, find_div, find_imul, find_imul8, find_imul32, shift_size, find_shift_by, find_shift_once, find_shift_cl, find_widen, find_spread, find_set, find_cmov, find_jcc8, find_jcc32, find_jmp8, find_jmp32, find_jmp_to, find_call, find_call_to, find_ret, find_lock_one, find_xadd, find_cmpxchg}
 use Rattle.guest_asm.proofs.PlaceLemmas.{short_disp, long_disp}
-use Rattle.guest_asm.proofs.Encodings.{Fit, spells_code}
-use Rattle.guest_asm.proofs.OperandLemmas.{rm_is, register_is, digit_below, imm_is, short_imm}
-use Rattle.guest_asm.proofs.Forms.{place_form, sized_fit, locked_fit, bare_fit, size_is, v_is, d_is, wide_over8, wide_small, one_small, closed}
+use Rattle.guest_asm.proofs.Encodings.{spells_code}
+use Rattle.guest_asm.proofs.OperandLemmas.{register_is, digit_below, imm_is, short_imm}
+use Rattle.guest_asm.proofs.Forms.{place_form, sized_fit, locked_fit, bare_fit, size_is, d_is, wide_over8, wide_small, one_small, closed}
 use Rattle.guest_asm.proofs.Written.{Written}
 use Rattle.guest_asm.proofs.WrittenMov.{over8_reg, no_marks}
 

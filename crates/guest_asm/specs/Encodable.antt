@@ -1,5 +1,5 @@
 -- Which instructions the assembler takes, without a REX byte or with one.
-use Rattle.std.specs.Prelude.{ℕ, ◌%◌, ◌+◌, ◌^◌, ◌<◌, Bool, true, false, ◌&&◌, ◌||◌, not, Option, Some, None, nat_eq, nat_le, nat_lt, if◌then◌else◌}
+use Rattle.std.specs.Prelude.{ℕ, ◌^◌, ◌<◌, Bool, true, false, ◌&&◌, ◌||◌, not, Option, Some, None, nat_eq, nat_le, nat_lt, if◌then◌else◌}
 use Rattle.std.specs.Int.{w32}
 use Rattle.std.specs.Int.RustNames.{FitsSigned}
 use Rattle.x86_forms.specs.declared.operands.Width.{Width}
@@ -7,8 +7,6 @@ use Rattle.x86_forms.specs.declared.operands.Width.TheVariants.{W8, W16, W32, W6
 use Rattle.x86_forms.specs.declared.operands.Mem.{Mem}
 use Rattle.x86_forms.specs.declared.operands.Operand.{Operand}
 use Rattle.x86_forms.specs.declared.operands.Operand.TheVariants as operand
-use Rattle.x86_forms.specs.declared.operands.Place.{Place}
-use Rattle.x86_forms.specs.declared.operands.Place.TheVariants as place
 use Rattle.x86_forms.specs.declared.instructions.AluOp.{AluOp}
 use Rattle.x86_forms.specs.declared.instructions.AluOp.TheVariants as alu
 use Rattle.x86_forms.specs.declared.instructions.OneOp.{OneOp}
