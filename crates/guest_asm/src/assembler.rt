@@ -31,21 +31,31 @@ fn without_rex(instr: Instr) -> Option<bool>
     }
 }
 
+// The bytes of an instruction that has a spelling.
+fn written(alloc: Global, no_rex: bool, instr: Instr) -> Result<Vec<u8>, AllocError>
+    requires { can no_rex instr ≡ true }
+    ensures { IfOk result (λ s. Spells instr s.items) }
+{
+    typed(instr);
+    let bytes = pieces(no_rex, instr).bytes(alloc)?;
+    Ok(bytes)
+}
+
 /// A byte string that spells the instruction, at most 15 bytes, or `None` where no string does: where
 /// a register's number is 16 or more, an immediate does not fit, an operand is of a kind that the
 /// instruction does not take, or AH to BH would stand beside what only a REX byte names (Intel SDM,
-/// Volume 2, chapter 2 and the instruction's page). Of several spellings it is the shortest usual one.
+/// Volume 2, chapter 2 and the instruction's page). Of several spellings it takes one without a prefix
+/// that could be left out, and with immediates, displacements and targets in one byte where they fit.
 /// `AllocError` comes where there is no memory for the bytes.
 pub fn assemble(alloc: Global, instr: &Instr) -> Result<Option<Vec<u8>>, AllocError>
     ensures spelled { IfOk result (λ o. IfSome o (λ s. Spells instr.now s.items)) }
     ensures none { IfOk result (λ o. IfNone o (HasNoSpelling instr.now)) }
 {
     let instr = *instr;
-    typed(instr);
     match without_rex(instr) {
         None => Ok(None),
         Some(no_rex) => {
-            let bytes = pieces(no_rex, instr).bytes(alloc)?;
+            let bytes = written(alloc, no_rex, instr)?;
             Ok(Some(bytes))
         }
     }
