@@ -1,0 +1,2 @@
+pub mod ElfReading
+pub mod ElfParts

@@ -1,0 +1,2 @@
+pub mod ElfField
+pub mod ElfFile

@@ -1,0 +1,4 @@
+//! ELF64 files of images.
+
+mod field;
+mod header;

@@ -1,0 +1,4 @@
+//! ELF files of guests.
+#![tactic(auto)]
+
+mod elf;
