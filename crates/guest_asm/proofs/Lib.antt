@@ -1,2 +1,3 @@
 pub mod ElfReading
 pub mod ElfParts
+pub mod ElfSegments
