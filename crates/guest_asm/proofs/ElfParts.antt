@@ -7,7 +7,6 @@ use Rattle.std.proofs.lemmas.List.Elements.{All-head, All-tail, All-nil, All-con
 use Rattle.elf_image.specs.Layout.{SegmentData, ImageData, IsSegment, IsImage}
 use Rattle.elf_image.specs.Elf as elf
 use Rattle.elf_image.specs.Elf.{program_headers, section_headers, symbols_of, part}
-use Rattle.elf_image.proofs.Faults.{not_faulty}
 use Rattle.guest_asm.specs.declared.elf.header.Section.{Section}
 use Rattle.guest_asm.specs.declared.elf.header.Symbol.{Symbol}
 use Rattle.guest_asm.specs.ElfField.{fields_bytes}
@@ -79,3 +78,97 @@ length-strings = refl
 pub length-section_names : length section_names ≡ 47
 unfolding section_names
 length-section_names = refl
+
+-- ---- the file, parted in front of each part
+
+unfoldable pub before_sections : ImageData → List ℕ
+before_sections m = head m ++ programs m
+
+unfoldable pub before_symbols : ImageData → List ℕ
+before_symbols m = before_sections m ++ section_table m
+
+unfoldable pub before_strings : ImageData → List ℕ
+before_strings m = before_symbols m ++ symbol_table m
+
+unfoldable pub before_names : ImageData → List ℕ
+before_names m = before_strings m ++ strings
+
+unfoldable pub before_rest : ImageData → List ℕ
+before_rest m = before_names m ++ section_names
+
+pub at_sections : (m : ImageData) → file m ≡ before_sections m ++ (section_table m ++ (symbol_table m ++ (strings ++ (section_names ++ rest m))))
+unfolding before_sections
+at_sections m = file_is m ∙ sym (append_assoc (head m) (programs m) (section_table m ++ (symbol_table m ++ (strings ++ (section_names ++ rest m)))))
+
+pub at_symbols : (m : ImageData) → file m ≡ before_symbols m ++ (symbol_table m ++ (strings ++ (section_names ++ rest m)))
+unfolding before_symbols
+at_symbols m = at_sections m ∙ sym (append_assoc (before_sections m) (section_table m) (symbol_table m ++ (strings ++ (section_names ++ rest m))))
+
+pub at_strings : (m : ImageData) → file m ≡ before_strings m ++ (strings ++ (section_names ++ rest m))
+unfolding before_strings
+at_strings m = at_symbols m ∙ sym (append_assoc (before_symbols m) (symbol_table m) (strings ++ (section_names ++ rest m)))
+
+at_names : (m : ImageData) → file m ≡ before_names m ++ (section_names ++ rest m)
+unfolding before_names
+at_names m = at_strings m ∙ sym (append_assoc (before_strings m) strings (section_names ++ rest m))
+
+pub at_rest : (m : ImageData) → file m ≡ before_rest m ++ rest m
+unfolding before_rest
+at_rest m = at_names m ∙ sym (append_assoc (before_names m) section_names (rest m))
+
+pub length-before_sections : (m : ImageData) → length (before_sections m) ≡ 64 + 56 * length m.segments
+unfolding before_sections
+length-before_sections m = omega (arith, length-append (head m) (programs m), length-head m, length-programs m)
+
+pub length-before_symbols : (m : ImageData) → length (before_symbols m) ≡ symbols_at (length m.segments)
+unfolding before_symbols
+length-before_symbols m = omega (arith, length-append (before_sections m) (section_table m), length-before_sections m, length-section_table m)
+
+pub length-before_strings : (m : ImageData) → length (before_strings m) ≡ strings_at (length m.segments) (length m.entries)
+unfolding before_strings
+length-before_strings m = omega (arith, length-append (before_symbols m) (symbol_table m), length-before_symbols m, length-symbol_table m)
+
+pub length-before_names : (m : ImageData) → length (before_names m) ≡ names_at (length m.segments) (length m.entries)
+unfolding before_names
+length-before_names m = omega (arith, length-append (before_strings m) strings, length-before_strings m, length-strings)
+
+pub length-before_rest : (m : ImageData) → length (before_rest m) ≡ contents_at (length m.segments) (length m.entries)
+unfolding before_rest
+length-before_rest m = omega (arith, length-append (before_names m) section_names, length-before_names m, length-section_names)
+
+pub length-file_is : (m : ImageData) → length (file m) ≡ contents_at (length m.segments) (length m.entries) + length (rest m)
+length-file_is m = omega (arith, ap length (at_rest m), length-append (before_rest m) (rest m), length-before_rest m)
+
+-- ---- what can be written, and the header of its file
+
+pub record CanWrite (m : ImageData) : Type 0 where
+  pub image : IsImage m
+  pub few : length m.segments ≤ 16
+  pub values : All (λ p. p.at < 2 ^ 64) m.entries
+  pub room : 24 * (length m.entries + 1) ≤ 2 ^ 63
+
+pub entry_small : (m : ImageData) → IsImage m → m.entry < 2 ^ 47
+entry_small m good =
+    let some = good.entry in
+    let s : IsSegment some.1 = rw (← some.3) (good.segments some.0 some.1 some.2) in
+    omega (arith, s.canonical, some.4.1.1)
+
+pub header_reads : (m : ImageData) → CanWrite m → FileReads (file m) m.entry (length m.segments)
+unfolding head
+header_reads m can =
+    let reads = file_reads m.entry (length m.segments) (programs m ++ (section_table m ++ (symbol_table m ++ (strings ++ (section_names ++ rest m))))) (omega (arith, entry_small m can.image)) can.few in
+    rw (file_is m) reads
+
+-- ---- the tables
+
+pub programs_read : (m : ImageData) → CanWrite m → program_headers (file m) ≡ map (λ p. elf.program_header (program_bytes p) 0) (parts_of m)
+unfolding program_headers programs
+programs_read m can =
+    let header = header_reads m can in
+    rw (header.phoff, header.phnum, file_is m) (table_found elf.program_header program_bytes 56 program_found length-program (parts_of m) (head m) (section_table m ++ (symbol_table m ++ (strings ++ (section_names ++ rest m)))) 64 (length m.segments) (length-head m) (length-parts_of m))
+
+pub sections_read : (m : ImageData) → CanWrite m → section_headers (file m) ≡ map (λ s. elf.section_header (section_bytes s) 0) (section_list m)
+unfolding section_headers section_table
+sections_read m can =
+    let header = header_reads m can in
+    rw (header.shoff, header.shnum, at_sections m) (table_found elf.section_header section_bytes 64 section_found length-section (section_list m) (before_sections m) (symbol_table m ++ (strings ++ (section_names ++ rest m))) (64 + 56 * length m.segments) (length m.segments + 4) (length-before_sections m) (length-section_list m))

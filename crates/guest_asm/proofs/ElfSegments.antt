@@ -12,6 +12,7 @@ use Rattle.elf_image.specs.Layout.{SegmentData, ImageData, IsSegment, IsImage, I
 use Rattle.elf_image.specs.Elf as elf
 use Rattle.elf_image.specs.Elf.{part, is_load, is_dynamic, is_readable, is_writable, is_executable, holds, passes_end}
 use Rattle.elf_image.specs.Loading.{segment_of, is_bad_load}
+use Rattle.elf_image.specs.Sound.{HasSegments}
 use Rattle.guest_asm.specs.ElfFile.{Placed, placed, contents, gap, flags_of, program_bytes}
 use Rattle.guest_asm.proofs.ElfReading.{part_found, ProgramReads, program_reads}
 
@@ -188,3 +189,31 @@ all_back bytes (p ∷ ps) all =
     let first : segment_of bytes (elf.program_header (program_bytes p) 0) ≡ p.segment = segment_back bytes p (All-head (IsPlaced bytes) p ps all) in
     let others : map (segment_of bytes) (map (λ p. elf.program_header (program_bytes p) 0) ps) ≡ map (λ p. p.segment) ps = all_back bytes ps (All-tail (IsPlaced bytes) p ps all) in
     cc
+
+module _ (bytes : List ℕ) (ps : List Placed) (ss : List SegmentData) (read : elf.program_headers bytes ≡ map (λ p. elf.program_header (program_bytes p) 0) ps) (all : All (IsPlaced bytes) ps) (same : map (λ p. p.segment) ps ≡ ss) where
+  headers_are : elf.segment_headers bytes ≡ map (λ p. elf.program_header (program_bytes p) 0) ps
+  unfolding elf.segment_headers
+  headers_are = ap (filter (λ h. is_load h && nat_lt 0 h.memsz)) read ∙ all_kept bytes ps all
+
+  -- the segments that are loaded are those that were written
+  pub segments_are : map (segment_of bytes) (elf.segment_headers bytes) ≡ ss
+  segments_are = ap (map (segment_of bytes)) headers_are ∙ all_back bytes ps all ∙ same
+
+  pub segments_sound : AllPairs IsApart ss → sum_by (λ s. s.size) ss ≤ 67108864 → HasSegments bytes
+  unfolding within
+  segments_sound apart small = record {
+    static = ap (list_any is_dynamic) read ∙ none_dynamic bytes ps all;
+    loads = ap (list_any (is_bad_load bytes)) read ∙ none_bad bytes ps all;
+    protected = ap (list_any (λ h. is_writable h && is_executable h)) headers_are ∙ none_both bytes ps all;
+    small = λ large. absurd (omega (arith, large, small, total));
+    apart = λ (a, two). absurd (omega (arith, two, one_within a ss apart, count a));
+  }
+    where
+      total : sum_by (λ h. h.memsz) (elf.segment_headers bytes) ≡ sum_by (λ s. s.size) ss
+      total = sym (fold-map (λ a s. a + s.size) (segment_of bytes) 0 (elf.segment_headers bytes)) ∙ ap (sum_by (λ s. s.size)) segments_are
+      count : (a : ℕ) → count_by (holds a) (elf.segment_headers bytes) ≡ count_by (within a) ss
+      count a = sym (fold-map (λ n s. n + cond (within a s) 1 0) (segment_of bytes) 0 (elf.segment_headers bytes)) ∙ ap (count_by (within a)) segments_are
+
+  pub entry_found : (a : ℕ) → IsExecutable a ss → list_any (λ h. is_executable h && holds a h) (elf.segment_headers bytes) ≡ true
+  unfolding enters within
+  entry_found a some = sym (any_map (enters a) (segment_of bytes) (elf.segment_headers bytes)) ∙ ap (list_any (enters a)) segments_are ∙ some_enters a ss some

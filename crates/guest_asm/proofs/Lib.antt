@@ -1,3 +1,4 @@
 pub mod ElfReading
 pub mod ElfParts
 pub mod ElfSegments
+pub mod ElfSymbols
