@@ -2,3 +2,4 @@ pub mod ElfReading
 pub mod ElfParts
 pub mod ElfSegments
 pub mod ElfSymbols
+pub mod ElfWritten
