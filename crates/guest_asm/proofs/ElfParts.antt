@@ -10,7 +10,7 @@ use Rattle.elf_image.specs.Elf.{program_headers, section_headers, symbols_of, pa
 use Rattle.guest_asm.specs.declared.elf.header.Section.{Section}
 use Rattle.guest_asm.specs.declared.elf.header.Symbol.{Symbol}
 use Rattle.guest_asm.specs.ElfField.{fields_bytes}
-use Rattle.guest_asm.specs.ElfFile.{Placed, placed, contents, gap, flags_of, file_fields, program_bytes, section_bytes, symbol_bytes, strings, section_names, sections, symbols, symbols_at, strings_at, names_at, contents_at, file}
+use Rattle.guest_asm.specs.ElfFile.{Placed, placed, contents, gap, flags_of, file_fields, program_bytes, section_bytes, symbol_bytes, strings, section_names, sections, symbols, symbols_at, strings_at, names_at, contents_at, file, CanWrite}
 use Rattle.guest_asm.proofs.ElfReading.{part_found, file_reads, FileReads, program_found, section_found, symbol_found, length-file, length-program, length-section, length-symbol, length-table, table_found}
 
 -- the parts in their order
@@ -139,13 +139,7 @@ length-before_rest m = omega (arith, length-append (before_names m) section_name
 pub length-file_is : (m : ImageData) → length (file m) ≡ contents_at (length m.segments) (length m.entries) + length (rest m)
 length-file_is m = omega (arith, ap length (at_rest m), length-append (before_rest m) (rest m), length-before_rest m)
 
--- ---- what can be written, and the header of its file
-
-pub record CanWrite (m : ImageData) : Type 0 where
-  pub image : IsImage m
-  pub few : length m.segments ≤ 16
-  pub values : All (λ p. p.at < 2 ^ 64) m.entries
-  pub room : 24 * (length m.entries + 1) ≤ 2 ^ 63
+-- ---- the header of the file
 
 pub entry_small : (m : ImageData) → IsImage m → m.entry < 2 ^ 47
 entry_small m good =

@@ -16,9 +16,8 @@ use Rattle.elf_image.specs.declared.place.Function.TheVariants.{PthreadCreate, P
 use Rattle.elf_image.specs.declared.place.LibPlace.{LibPlace}
 use Rattle.guest_asm.specs.declared.elf.header.Section.{Section}
 use Rattle.guest_asm.specs.declared.elf.header.Symbol.{Symbol}
-use Rattle.guest_asm.specs.ElfFile.{Placed, name_at, symbol_bytes, symbol_fields, section_bytes, strings, sections, section_fields, symbol_of, section_of, symbols, no_symbol, no_section, symbol_section, string_section, segment_section, symbols_at, strings_at, names_at, contents_at, file}
+use Rattle.guest_asm.specs.ElfFile.{Placed, name_at, symbol_bytes, symbol_fields, section_bytes, strings, sections, section_fields, symbol_of, section_of, symbols, no_symbol, no_section, symbol_section, string_section, segment_section, symbols_at, strings_at, names_at, contents_at, file, CanWrite}
 use Rattle.guest_asm.proofs.ElfReading.{SymbolReads, symbol_reads, section_reads, SectionReads}
-use Rattle.guest_asm.proofs.ElfParts.{CanWrite}
 
 -- ---- one symbol
 

@@ -14,9 +14,9 @@ use Rattle.elf_image.specs.Sound.{HasHeaders, HasSegments}
 use Rattle.elf_image.specs.declared.place.LibPlace.{LibPlace}
 use Rattle.elf_image.proofs.Faults.{not_faulty}
 use Rattle.guest_asm.specs.ElfField.{fields_bytes}
-use Rattle.guest_asm.specs.ElfFile.{Placed, placed, contents, gap, program_bytes, section_bytes, symbol_bytes, strings, section_names, sections, file_fields, section_fields, no_section, symbol_section, string_section, segment_section, symbols, symbols_at, strings_at, names_at, contents_at, file}
+use Rattle.guest_asm.specs.ElfFile.{Placed, placed, contents, gap, program_bytes, section_bytes, symbol_bytes, strings, section_names, sections, file_fields, section_fields, no_section, symbol_section, string_section, segment_section, symbols, symbols_at, strings_at, names_at, contents_at, file, CanWrite}
 use Rattle.guest_asm.proofs.ElfReading.{part_found, section_found, symbol_found, section_reads, SectionReads, length-section, length-symbol, table_found, FileReads}
-use Rattle.guest_asm.proofs.ElfParts.{CanWrite, entry_small, head, programs, section_list, section_table, symbol_table, rest, parts_of, before_sections, before_symbols, before_strings, before_rest, at_sections, at_symbols, at_strings, at_rest, file_is, header_reads, programs_read, sections_read, length-before_sections, length-before_symbols, length-before_strings, length-before_rest, length-file_is, length-symbols, length-strings}
+use Rattle.guest_asm.proofs.ElfParts.{entry_small, head, programs, section_list, section_table, symbol_table, rest, parts_of, before_sections, before_symbols, before_strings, before_rest, at_sections, at_symbols, at_strings, at_rest, file_is, header_reads, programs_read, sections_read, length-before_sections, length-before_symbols, length-before_strings, length-before_rest, length-file_is, length-symbols, length-strings}
 use Rattle.guest_asm.proofs.ElfSegments.{IsPlaced, all_placed, segments_are, segments_sound, entry_found}
 use Rattle.guest_asm.proofs.ElfSymbols.{places_back}
 

@@ -1,8 +1,8 @@
 -- The parts of the file that is written of an image: headers, symbols, strings, and the bytes of the segments.
-use Rattle.std.specs.Prelude.{ℕ, ◌+◌, ◌-◌, ◌*◌, ◌%◌, nat_lt, nat_le, ◌&&◌, Bool, if◌then◌else◌, List, [], ◌∷◌, ◌++◌, length, map, replicate, codes, unwrap_or}
+use Rattle.std.specs.Prelude.{ℕ, ◌+◌, ◌-◌, ◌*◌, ◌%◌, ◌^◌, ◌<◌, ◌≤◌, All, nat_lt, nat_le, ◌&&◌, Bool, if◌then◌else◌, List, [], ◌∷◌, ◌++◌, length, map, replicate, codes, unwrap_or}
 use Rattle.std.specs.List.{flat_map, position}
 use Rattle.std.specs.Option.{option_map}
-use Rattle.elf_image.specs.Layout.{SegmentData, ImageData}
+use Rattle.elf_image.specs.Layout.{SegmentData, ImageData, IsImage}
 use Rattle.elf_image.specs.Library.{name_of, functions}
 use Rattle.elf_image.specs.declared.place.Function.{Function}
 use Rattle.elf_image.specs.declared.place.Function.TheVariants.{PthreadCreate, PthreadJoin, PthreadSelf, MutexInit, MutexLock, MutexTrylock, MutexUnlock, MutexDestroy, Bsearch, Read, Write, Exit}
@@ -177,3 +177,10 @@ file m =
     ++ (strings
     ++ (section_names
     ++ contents (contents_at n k) m.segments)))))
+
+-- the image has at most 16 segments, and its numbers fit the file's fields
+pub record CanWrite (m : ImageData) : Type 0 where
+  pub image : IsImage m
+  pub few : length m.segments ≤ 16
+  pub values : All (λ p. p.at < 2 ^ 64) m.entries
+  pub room : 24 * (length m.entries + 1) ≤ 3 * 2 ^ 62

@@ -1,4 +1,61 @@
 //! ELF64 files of images.
 
+ghost use Rattle.std.specs.Prelude.{◌≡◌, ◌≤◌, length, IfOk, OnOk};
+ghost use Rattle.elf_image.specs.Loading.{IsFaulty, IsImageOf};
+ghost use Rattle.guest_asm.specs.ElfFile.{file, CanWrite};
+
+use crate::elf::field::put;
+use crate::elf::header::file_fields;
+use crate::elf::layout::Layout;
+use crate::elf::sections::{put_sections, section_names};
+use crate::elf::segments::{put_contents, put_programs};
+use crate::elf::symbols::{count_of, put_symbols, strings};
+use elf_image::Image;
+use std::alloc::{AllocError, Global};
+
 mod field;
 mod header;
+mod layout;
+mod sections;
+mod segments;
+mod symbols;
+
+// The bytes of the file, whose numbers all fit.
+#[tactic(auto, unfolding(crate::specs::ElfFile::file))]
+fn file_of(alloc: Global, image: &Image) -> Result<Vec<u8>, AllocError>
+    requires { length image.now.segments ≤ 16 }
+    ensures bytes { IfOk result (λ v. v.items ≡ file image.now) }
+    ensures fits { OnOk result (CanWrite image.now) }
+{
+    image.facts();
+    let places = count_of(&image.entries);
+    let layout = Layout::new(image.segments.len() as u64, places);
+    let mut out = Vec::new(alloc);
+    put(
+        &mut out,
+        &file_fields(image.entry, image.segments.len() as u16),
+    )?;
+    put_programs(&mut out, layout.contents, &image.segments)?;
+    put_sections(&mut out, places, &image.segments)?;
+    put_symbols(&mut out, image)?;
+    out.extend_from_slice(strings())?;
+    out.extend_from_slice(section_names())?;
+    put_contents(&mut out, &image.segments)?;
+    Ok(out)
+}
+
+/// An ELF64 file of which the loader makes the image: a static program (ELF specification, "ELF
+/// Header", "Program Header", "Symbol Table") with a segment of type PT_LOAD for each of the image's,
+/// in their order, and a global symbol of a function for each place of the library. A segment's
+/// bytes stand at an offset that is its address modulo 4096, and tools find it as a section too.
+///
+/// The image has at most 16 segments. The only error is want of memory.
+pub fn write_elf(alloc: Global, image: &Image) -> Result<Vec<u8>, AllocError>
+    requires { length image.now.segments ≤ 16 }
+    // The bytes' image is this one.
+    ensures image { IfOk result (λ bytes. IsImageOf bytes.items image.now) }
+    // No fault of a file fits them.
+    ensures sound { IfOk result (λ bytes. ¬ IsFaulty bytes.items) }
+{
+    file_of(alloc, image)
+}

@@ -2,3 +2,5 @@
 #![tactic(auto)]
 
 mod elf;
+
+pub use elf::write_elf;
