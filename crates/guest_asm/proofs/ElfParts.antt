@@ -1,17 +1,15 @@
 -- Where the parts of the written file stand.
-use Rattle.std.proofs.Common.{◌≡◌, ℕ, ◌+◌, ◌*◌, ◌^◌, ◌<◌, ◌≤◌, List, [], ◌∷◌, ◌++◌, length, map, take, drop, replicate, sym, refl, ap, ◌∙◌, suc, arith, length-append, append_assoc}
-use Rattle.std.specs.Prelude.{All}
+use Rattle.std.proofs.Common.{◌≡◌, ℕ, ◌+◌, ◌*◌, ◌^◌, ◌<◌, List, [], ◌∷◌, ◌++◌, length, map, sym, refl, ap, ◌∙◌, suc, arith, length-append, append_assoc}
 use Rattle.std.specs.List.{flat_map}
-use Rattle.std.proofs.lemmas.List.{length-map, length-replicate, append-nil}
-use Rattle.std.proofs.lemmas.List.Elements.{All-head, All-tail, All-nil, All-cons}
+use Rattle.std.proofs.lemmas.List.{length-map}
 use Rattle.elf_image.specs.Layout.{SegmentData, ImageData, IsSegment, IsImage}
 use Rattle.elf_image.specs.Elf as elf
 use Rattle.elf_image.specs.Elf.{program_headers, section_headers, symbols_of, part}
 use Rattle.guest_asm.specs.declared.elf.header.Section.{Section}
-use Rattle.guest_asm.specs.declared.elf.header.Symbol.{Symbol}
+use Rattle.guest_asm.specs.declared.elf.field.Field.{Field}
 use Rattle.guest_asm.specs.ElfField.{fields_bytes}
 use Rattle.guest_asm.specs.ElfFile.{Placed, placed, contents, gap, flags_of, file_fields, program_bytes, section_bytes, symbol_bytes, strings, section_names, sections, symbols, symbols_at, strings_at, names_at, contents_at, file, CanWrite}
-use Rattle.guest_asm.proofs.ElfReading.{part_found, file_reads, FileReads, program_found, section_found, symbol_found, length-file, length-program, length-section, length-symbol, length-table, table_found}
+use Rattle.guest_asm.proofs.ElfReading.{file_reads, FileReads, program_found, section_found, length-file, length-program, length-section, length-symbol, length-table, table_found}
 
 -- the parts in their order
 unfoldable pub parts_of : ImageData → List Placed
@@ -30,7 +28,7 @@ unfoldable pub section_table : ImageData → List ℕ
 section_table m = flat_map section_bytes (section_list m)
 
 unfoldable pub symbol_table : ImageData → List ℕ
-symbol_table m = flat_map symbol_bytes (symbols m)
+symbol_table m = flat_map symbol_bytes (symbols m.segments m.entries)
 
 unfoldable pub rest : ImageData → List ℕ
 rest m = contents (contents_at (length m.segments) (length m.entries)) m.segments
@@ -51,8 +49,7 @@ pub length-section_list : (m : ImageData) → length (section_list m) ≡ length
 unfolding section_list sections
 length-section_list m = let e = length-map (parts_of m) Rattle.guest_asm.specs.ElfFile.segment_section in omega (arith, e, length-parts_of m)
 
-pub length-symbols : (m : ImageData) → length (symbols m) ≡ length m.entries + 1
-unfolding symbols
+pub length-symbols : (m : ImageData) → length (symbols m.segments m.entries) ≡ length m.entries + 1
 length-symbols m = omega (arith, length-map m.entries (Rattle.guest_asm.specs.ElfFile.symbol_of m.segments))
 
 pub length-head : (m : ImageData) → length (head m) ≡ 64
@@ -69,7 +66,7 @@ length-section_table m = length-table section_bytes 64 length-section (section_l
 
 pub length-symbol_table : (m : ImageData) → length (symbol_table m) ≡ 24 * (length m.entries + 1)
 unfolding symbol_table
-length-symbol_table m = length-table symbol_bytes 24 length-symbol (symbols m) ∙ ap (λ n. 24 * n) (length-symbols m)
+length-symbol_table m = length-table symbol_bytes 24 length-symbol (symbols m.segments m.entries) ∙ ap (λ n. 24 * n) (length-symbols m)
 
 pub length-strings : length strings ≡ 169
 unfolding strings
@@ -166,3 +163,16 @@ unfolding section_headers section_table
 sections_read m can =
     let header = header_reads m can in
     rw (header.shoff, header.shnum, at_sections m) (table_found elf.section_header section_bytes 64 section_found length-section (section_list m) (before_sections m) (symbol_table m ++ (strings ++ (section_names ++ rest m))) (64 + 56 * length m.segments) (length m.segments + 4) (length-before_sections m) (length-section_list m))
+
+-- ---- the parts, appended one after another
+
+pub assembled : (m : ImageData) (fs : List Field) (ss ns : List ℕ) (n k offset : ℕ) (start a b c d e f g : List ℕ)
+    → n ≡ length m.segments → k ≡ length m.entries → offset ≡ contents_at n k → fs ≡ file_fields m.entry n → ss ≡ strings → ns ≡ section_names
+    → start ≡ [] → a ≡ start ++ fields_bytes fs
+    → b ≡ a ++ flat_map program_bytes (placed offset m.segments)
+    → c ≡ b ++ flat_map section_bytes (sections (length m.segments) k (placed (contents_at (length m.segments) k) m.segments))
+    → d ≡ c ++ flat_map symbol_bytes (symbols m.segments m.entries) → e ≡ d ++ ss → f ≡ e ++ ns → g ≡ f ++ contents (length f) m.segments → g ≡ file m
+unfolding head programs section_table section_list symbol_table rest parts_of before_sections before_symbols before_strings before_names before_rest
+assembled m fs ss ns n k offset start a b c d e f g n_is k_is offset_is fs_is ss_is ns_is start_is a_is b_is c_is d_is e_is f_is g_is =
+    let front : f ≡ before_rest m = rw (f_is, e_is, d_is, c_is, b_is, a_is, start_is, ns_is, ss_is, fs_is, offset_is, k_is, n_is) refl in
+    g_is ∙ ap (λ (xs : List ℕ). xs ++ contents (length xs) m.segments) front ∙ ap (λ (n : ℕ). before_rest m ++ contents n m.segments) (length-before_rest m) ∙ sym (at_rest m)

@@ -1,14 +1,13 @@
 -- Segments that are loaded from the written headers and bytes.
-use Rattle.std.proofs.Common.{◌≡◌, ℕ, ◌+◌, ◌-◌, ◌*◌, ◌^◌, ◌<◌, ◌≤◌, Bool, true, false, cond, ◌&&◌, ◌||◌, nat_lt, nat_le, ◌==◌, List, [], ◌∷◌, ◌++◌, length, map, take, drop, get_or, replicate, bit_and, sum_by, count_by, sym, refl, ap, ◌∙◌, suc, zero, arith, length-append, append_assoc, inl, inr}
-use Rattle.std.specs.Prelude.{All, AllPairs, Any, IsTrue, filter, not, if◌then◌else◌}
-use Rattle.std.specs.List.{flat_map, list_any}
-use Rattle.std.proofs.lemmas.Bool.{cases_lt}
+use Rattle.std.proofs.Common.{◌≡◌, ℕ, ◌+◌, ◌-◌, ◌*◌, ◌^◌, ◌<◌, ◌≤◌, Bool, true, false, cond, ◌&&◌, ◌||◌, nat_lt, nat_le, ◌==◌, List, [], ◌∷◌, ◌++◌, length, map, get_or, replicate, bit_and, sum_by, count_by, sym, refl, ap, ◌∙◌, suc, arith, length-append, append_assoc}
+use Rattle.std.specs.Prelude.{All, AllPairs, filter, not, if◌then◌else◌}
+use Rattle.std.specs.List.{list_any}
 use Rattle.std.proofs.lemmas.Bool.Decides.{nat_tests}
 use Rattle.std.proofs.lemmas.Grind.{common_steps}
 use Rattle.std.proofs.lemmas.List.{length-replicate, append-nil}
 use Rattle.std.proofs.lemmas.List.Elements.{All-head, All-tail, All-nil, All-cons, All-map, All-weaker}
 use Rattle.std.proofs.lemmas.List.Folds.{fold-map, list_any_none, list_any-from_Any}
-use Rattle.elf_image.specs.Layout.{SegmentData, ImageData, IsSegment, IsImage, IsApart, IsWithin, IsExecutable}
+use Rattle.elf_image.specs.Layout.{SegmentData, IsSegment, IsApart, IsExecutable}
 use Rattle.elf_image.specs.Elf as elf
 use Rattle.elf_image.specs.Elf.{part, is_load, is_dynamic, is_readable, is_writable, is_executable, holds, passes_end}
 use Rattle.elf_image.specs.Loading.{segment_of, is_bad_load}

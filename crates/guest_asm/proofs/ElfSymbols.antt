@@ -1,23 +1,20 @@
 -- The library's places, from the written symbols.
-use Rattle.std.proofs.Common.{◌≡◌, ◌≢◌, ℕ, ◌+◌, ◌-◌, ◌*◌, ◌/◌, ◌%◌, ◌^◌, ◌<◌, ◌≤◌, Bool, true, false, cond, ◌&&◌, ◌||◌, nat_lt, nat_le, ◌==◌, List, [], ◌∷◌, ◌++◌, length, map, take, drop, get_or, Option, Some, None, sym, refl, ap, ◌∙◌, suc, zero, arith, length-append, append_assoc, inl, inr}
-use Rattle.std.specs.Prelude.{All, AllPairs, Any, IsTrue, filter, not, if◌then◌else◌, unwrap_or}
-use Rattle.std.specs.List.{flat_map, list_any, filter_map, position, find}
+use Rattle.std.proofs.Common.{◌≡◌, ℕ, ◌+◌, ◌^◌, ◌<◌, ◌≤◌, Bool, false, ◌&&◌, nat_lt, nat_le, ◌==◌, List, [], ◌∷◌, length, map, Option, Some, None, refl, ap, arith}
+use Rattle.std.specs.Prelude.{All, unwrap_or}
+use Rattle.std.specs.List.{filter_map, position}
 use Rattle.std.specs.Option.{option_map}
 use Rattle.std.proofs.lemmas.Bool.Decides.{nat_tests}
-use Rattle.std.proofs.lemmas.Grind.{common_steps}
 use Rattle.std.proofs.lemmas.List.Elements.{All-head, All-tail}
 use Rattle.std.proofs.lemmas.List.Quantifiers.{position-Some}
-use Rattle.elf_image.specs.Layout.{SegmentData, ImageData, IsSegment, IsImage}
-use Rattle.elf_image.specs.Library.{function_named, place_of, is_exported, library_places}
+use Rattle.elf_image.specs.Layout.{SegmentData, ImageData}
+use Rattle.elf_image.specs.Library.{function_named, place_of}
 use Rattle.elf_image.specs.Elf as elf
 use Rattle.elf_image.specs.Elf.{part, passes_end, symbols_of, string_table, section_headers}
 use Rattle.elf_image.specs.declared.place.Function.{Function}
 use Rattle.elf_image.specs.declared.place.Function.TheVariants.{PthreadCreate, PthreadJoin, PthreadSelf, MutexInit, MutexLock, MutexTrylock, MutexUnlock, MutexDestroy, Bsearch, Read, Write, Exit}
 use Rattle.elf_image.specs.declared.place.LibPlace.{LibPlace}
-use Rattle.guest_asm.specs.declared.elf.header.Section.{Section}
-use Rattle.guest_asm.specs.declared.elf.header.Symbol.{Symbol}
-use Rattle.guest_asm.specs.ElfFile.{Placed, name_at, symbol_bytes, symbol_fields, section_bytes, strings, sections, section_fields, symbol_of, section_of, symbols, no_symbol, no_section, symbol_section, string_section, segment_section, symbols_at, strings_at, names_at, contents_at, file, CanWrite}
-use Rattle.guest_asm.proofs.ElfReading.{SymbolReads, symbol_reads, section_reads, SectionReads}
+use Rattle.guest_asm.specs.ElfFile.{name_at, symbol_bytes, symbol_fields, strings, symbol_of, section_of, symbols, no_symbol, CanWrite}
+use Rattle.guest_asm.proofs.ElfReading.{SymbolReads, symbol_reads}
 
 -- ---- one symbol
 
@@ -91,6 +88,5 @@ none_placed : place_of strings (elf.symbol (symbol_bytes no_symbol) 0) ≡ None
 unfolding elf.symbol elf.number_at symbol_fields no_symbol
 none_placed = refl
 
-pub places_back : (m : ImageData) → CanWrite m → filter_map (place_of strings) (map (λ s. elf.symbol (symbol_bytes s) 0) (symbols m)) ≡ m.entries
-unfolding symbols
+pub places_back : (m : ImageData) → CanWrite m → filter_map (place_of strings) (map (λ s. elf.symbol (symbol_bytes s) 0) (symbols m.segments m.entries)) ≡ m.entries
 places_back m can = rw none_placed (all_placed m.segments m.entries can.few can.values)

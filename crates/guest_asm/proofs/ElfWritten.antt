@@ -1,22 +1,21 @@
 -- The written file is one of its image, and has no fault.
-use Rattle.std.proofs.Common.{◌≡◌, ◌≢◌, ℕ, ◌+◌, ◌-◌, ◌*◌, ◌/◌, ◌%◌, ◌^◌, ◌<◌, ◌≤◌, Bool, true, false, ◌&&◌, ◌||◌, nat_lt, nat_le, ◌==◌, List, [], ◌∷◌, ◌++◌, length, map, take, drop, get_or, Option, Some, None, sym, refl, ap, ◌∙◌, arith, length-append, append_assoc, inl, inr}
-use Rattle.std.specs.Prelude.{All, AllPairs, Contains, not}
-use Rattle.std.specs.List.{flat_map, filter_map}
+use Rattle.std.proofs.Common.{◌≡◌, ℕ, ◌+◌, ◌*◌, ◌/◌, ◌%◌, ◌^◌, ◌<◌, ◌≤◌, false, List, [], ◌∷◌, ◌++◌, length, map, get_or, Some, sym, refl, ap, ◌∙◌, arith, length-append, append_assoc, inl, inr}
+use Rattle.std.specs.Prelude.{All, AllPairs, Result, Ok, Err, IfOk, OnOk}
+use Rattle.std.specs.List.{flat_map}
 use Rattle.std.proofs.lemmas.Bool.{cases_lt}
 use Rattle.std.proofs.lemmas.Bool.Decides.{nat_tests}
 use Rattle.std.proofs.lemmas.List.{get_or_default}
-use Rattle.elf_image.specs.Layout.{SegmentData, ImageData, IsSegment, IsImage, IsBelow}
-use Rattle.elf_image.specs.Library.{place_of, library_places}
+use Rattle.elf_image.specs.Layout.{SegmentData, ImageData, IsImage, IsBelow}
+use Rattle.elf_image.specs.Library.{library_places}
 use Rattle.elf_image.specs.Elf as elf
 use Rattle.elf_image.specs.Elf.{part, passes_end}
-use Rattle.elf_image.specs.Loading.{IsFaulty, IsImageOf, HasClash, Clashes, is_bad_symbol_table, is_bad_if_there, is_bad_table}
-use Rattle.elf_image.specs.Sound.{HasHeaders, HasSegments}
+use Rattle.elf_image.specs.Loading.{IsFaulty, IsImageOf, Clashes, is_bad_if_there}
+use Rattle.elf_image.specs.Sound.{HasHeaders}
 use Rattle.elf_image.specs.declared.place.LibPlace.{LibPlace}
 use Rattle.elf_image.proofs.Faults.{not_faulty}
-use Rattle.guest_asm.specs.ElfField.{fields_bytes}
-use Rattle.guest_asm.specs.ElfFile.{Placed, placed, contents, gap, program_bytes, section_bytes, symbol_bytes, strings, section_names, sections, file_fields, section_fields, no_section, symbol_section, string_section, segment_section, symbols, symbols_at, strings_at, names_at, contents_at, file, CanWrite}
-use Rattle.guest_asm.proofs.ElfReading.{part_found, section_found, symbol_found, section_reads, SectionReads, length-section, length-symbol, table_found, FileReads}
-use Rattle.guest_asm.proofs.ElfParts.{entry_small, head, programs, section_list, section_table, symbol_table, rest, parts_of, before_sections, before_symbols, before_strings, before_rest, at_sections, at_symbols, at_strings, at_rest, file_is, header_reads, programs_read, sections_read, length-before_sections, length-before_symbols, length-before_strings, length-before_rest, length-file_is, length-symbols, length-strings}
+use Rattle.guest_asm.specs.ElfFile.{placed, gap, section_bytes, symbol_bytes, strings, section_names, sections, file_fields, section_fields, no_section, symbol_section, string_section, segment_section, symbols, symbols_at, strings_at, names_at, contents_at, file, CanWrite}
+use Rattle.guest_asm.proofs.ElfReading.{part_found, section_found, symbol_found, section_reads, length-section, length-symbol, table_found}
+use Rattle.guest_asm.proofs.ElfParts.{head, section_list, section_table, symbol_table, rest, parts_of, before_sections, before_symbols, before_strings, before_rest, at_sections, at_symbols, at_strings, at_rest, file_is, header_reads, programs_read, sections_read, length-before_sections, length-before_symbols, length-before_strings, length-before_rest, length-file_is, length-symbols, length-strings}
 use Rattle.guest_asm.proofs.ElfSegments.{IsPlaced, all_placed, segments_are, segments_sound, entry_found}
 use Rattle.guest_asm.proofs.ElfSymbols.{places_back}
 
@@ -87,12 +86,12 @@ module _ (m : ImageData) (can : CanWrite m) where
   strings_found : part (strings_at (length m.segments) (length m.entries)) 169 (file m) ≡ strings
   strings_found = ap (part (strings_at (length m.segments) (length m.entries)) 169) (at_strings m) ∙ part_found (before_strings m) strings (section_names ++ rest m) (strings_at (length m.segments) (length m.entries)) 169 (length-before_strings m) length-strings
 
-  symbols_read : elf.symbols_of (file m) (elf.section_header (section_bytes (symbol_section (symbols_at (length m.segments)) (length m.entries + 1))) 0) ≡ map (λ s. elf.symbol (symbol_bytes s) 0) (symbols m)
+  symbols_read : elf.symbols_of (file m) (elf.section_header (section_bytes (symbol_section (symbols_at (length m.segments)) (length m.entries + 1))) 0) ≡ map (λ s. elf.symbol (symbol_bytes s) 0) (symbols m.segments m.entries)
   unfolding elf.symbols_of symbol_table
   symbols_read =
       let reads = table_reads in
-      let count : length (symbols m) ≡ 24 * (length m.entries + 1) / 24 = omega (arith, length-symbols m) in
-      rw (reads.at, reads.size, at_symbols m) (table_found elf.symbol symbol_bytes 24 symbol_found length-symbol (symbols m) (before_symbols m) (strings ++ (section_names ++ rest m)) (symbols_at (length m.segments)) (24 * (length m.entries + 1) / 24) (length-before_symbols m) count)
+      let count : length (symbols m.segments m.entries) ≡ 24 * (length m.entries + 1) / 24 = omega (arith, length-symbols m) in
+      rw (reads.at, reads.size, at_symbols m) (table_found elf.symbol symbol_bytes 24 symbol_found length-symbol (symbols m.segments m.entries) (before_symbols m) (strings ++ (section_names ++ rest m)) (symbols_at (length m.segments)) (24 * (length m.entries + 1) / 24) (length-before_symbols m) count)
 
   places_are : library_places (file m) ≡ m.entries
   unfolding library_places
@@ -146,3 +145,17 @@ module _ (m : ImageData) (can : CanWrite m) where
     segments = sym (segments_are (file m) (parts_of m) m.segments (programs_read m can) parts_placed segments_of_parts);
     entries = rw places_are (record { rising = can.image.rising; same = λ p. (λ h. h, λ h. h) });
   }
+
+-- ---- by the writer's answer
+
+module _ (m written : ImageData) (same : written ≡ m) (good : IsImage m) (few : length m.segments ≤ 16) (room : 24 * (length written.entries + 1) ≤ 3 * 2 ^ 62) where
+  can_write : All (λ p. p.at < 2 ^ 64) written.entries → CanWrite written
+  can_write values = record { image = rw same good; few = rw same few; values = values; room = room }
+
+  pub image_written : {V E : Type 0} (items : V → List ℕ) (r : Result V E) → IfOk r (λ v. items v ≡ file written) → OnOk r (All (λ p. p.at < 2 ^ 64) written.entries) → IfOk r (λ v. IsImageOf (items v) m)
+  image_written items (Ok v) bytes values = rw (bytes, ← same) (file_image written (can_write values))
+  image_written items (Err e) bytes values = tt
+
+  pub sound_written : {V E : Type 0} (items : V → List ℕ) (r : Result V E) → IfOk r (λ v. items v ≡ file written) → OnOk r (All (λ p. p.at < 2 ^ 64) written.entries) → IfOk r (λ v. ¬ IsFaulty (items v))
+  sound_written items (Ok v) bytes values = rw bytes (file_sound written (can_write values))
+  sound_written items (Err e) bytes values = tt

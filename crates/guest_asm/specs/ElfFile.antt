@@ -1,5 +1,5 @@
 -- The parts of the file that is written of an image: headers, symbols, strings, and the bytes of the segments.
-use Rattle.std.specs.Prelude.{ℕ, ◌+◌, ◌-◌, ◌*◌, ◌%◌, ◌^◌, ◌<◌, ◌≤◌, All, nat_lt, nat_le, ◌&&◌, Bool, if◌then◌else◌, List, [], ◌∷◌, ◌++◌, length, map, replicate, codes, unwrap_or}
+use Rattle.std.specs.Prelude.{ℕ, ◌+◌, ◌-◌, ◌*◌, ◌%◌, ◌^◌, ◌<◌, ◌≤◌, All, nat_lt, nat_le, ◌&&◌, if◌then◌else◌, List, [], ◌∷◌, ◌++◌, length, map, replicate, codes, unwrap_or}
 use Rattle.std.specs.List.{flat_map, position}
 use Rattle.std.specs.Option.{option_map}
 use Rattle.elf_image.specs.Layout.{SegmentData, ImageData, IsImage}
@@ -160,8 +160,8 @@ section_of a segments = unwrap_or (option_map (λ i. i + 4) (position (λ s. nat
 unfoldable pub symbol_of : List SegmentData → LibPlace → Symbol
 symbol_of segments p = record { name = name_at p.function; info = 0x12; section = section_of p.at segments; value = p.at }
 
-unfoldable pub symbols : ImageData → List Symbol
-symbols m = no_symbol ∷ map (symbol_of m.segments) m.entries
+abbrev pub symbols : List SegmentData → List LibPlace → List Symbol
+symbols segments places = no_symbol ∷ map (symbol_of segments) places
 
 -- ---- the file
 
@@ -173,7 +173,7 @@ file m =
     fields_bytes (file_fields m.entry n)
     ++ (flat_map program_bytes parts
     ++ (flat_map section_bytes (sections n k parts)
-    ++ (flat_map symbol_bytes (symbols m)
+    ++ (flat_map symbol_bytes (symbols m.segments m.entries)
     ++ (strings
     ++ (section_names
     ++ contents (contents_at n k) m.segments)))))

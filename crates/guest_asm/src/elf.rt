@@ -1,8 +1,9 @@
 //! ELF64 files of images.
 
-ghost use Rattle.std.specs.Prelude.{◌≡◌, ◌≤◌, length, IfOk, OnOk};
+ghost use Rattle.std.specs.Prelude.{◌≡◌, ◌+◌, ◌*◌, ◌^◌, ◌<◌, ◌≤◌, length, All, IfOk, OnOk};
+ghost use Rattle.elf_image.specs.Layout.{IsSegment};
 ghost use Rattle.elf_image.specs.Loading.{IsFaulty, IsImageOf};
-ghost use Rattle.guest_asm.specs.ElfFile.{file, CanWrite};
+ghost use Rattle.guest_asm.specs.ElfFile.{file};
 
 use crate::elf::field::put;
 use crate::elf::header::file_fields;
@@ -10,7 +11,7 @@ use crate::elf::layout::Layout;
 use crate::elf::sections::{put_sections, section_names};
 use crate::elf::segments::{put_contents, put_programs};
 use crate::elf::symbols::{count_of, put_symbols, strings};
-use elf_image::Image;
+use elf_image::{Image, LibPlace, Segment};
 use std::alloc::{AllocError, Global};
 
 mod field;
@@ -20,27 +21,30 @@ mod sections;
 mod segments;
 mod symbols;
 
-// The bytes of the file, whose numbers all fit.
-#[tactic(auto, unfolding(crate::specs::ElfFile::file))]
-fn file_of(alloc: Global, image: &Image) -> Result<Vec<u8>, AllocError>
-    requires { length image.now.segments ≤ 16 }
-    ensures bytes { IfOk result (λ v. v.items ≡ file image.now) }
-    ensures fits { OnOk result (CanWrite image.now) }
+// The bytes of the file.
+fn file_of(
+    alloc: Global,
+    entry: u64,
+    segments: &[Segment],
+    places: &[LibPlace],
+) -> Result<Vec<u8>, AllocError>
+    requires few { length segments.now ≤ 16 }
+    requires sized { All IsSegment segments.now }
+    ensures bytes { IfOk result (λ v. v.items ≡ file (record { entry = entry; segments = segments.now; entries = places.now })) }
+    // The addresses and the offsets fit in 64 bits.
+    ensures values { OnOk result (All (λ p. p.at < 2 ^ 64) places.now) }
+    ensures room { 24 * (length places.now + 1) ≤ 3 * 2 ^ 62 }
 {
-    image.facts();
-    let places = count_of(&image.entries);
-    let layout = Layout::new(image.segments.len() as u64, places);
+    let count = count_of(places);
+    let layout = Layout::new(segments.len() as u64, count);
     let mut out = Vec::new(alloc);
-    put(
-        &mut out,
-        &file_fields(image.entry, image.segments.len() as u16),
-    )?;
-    put_programs(&mut out, layout.contents, &image.segments)?;
-    put_sections(&mut out, places, &image.segments)?;
-    put_symbols(&mut out, image)?;
+    put(&mut out, &file_fields(entry, segments.len() as u16))?;
+    put_programs(&mut out, layout.contents, segments)?;
+    put_sections(&mut out, count, segments)?;
+    put_symbols(&mut out, segments, places)?;
     out.extend_from_slice(strings())?;
     out.extend_from_slice(section_names())?;
-    put_contents(&mut out, &image.segments)?;
+    put_contents(&mut out, segments)?;
     Ok(out)
 }
 
@@ -57,5 +61,6 @@ pub fn write_elf(alloc: Global, image: &Image) -> Result<Vec<u8>, AllocError>
     // No fault of a file fits them.
     ensures sound { IfOk result (λ bytes. ¬ IsFaulty bytes.items) }
 {
-    file_of(alloc, image)
+    image.facts();
+    file_of(alloc, image.entry, &image.segments, &image.entries)
 }

@@ -1,6 +1,6 @@
 //! Segments: where their bytes stand in the file, their program headers, and the bytes.
 
-ghost use Rattle.std.specs.Prelude.{◌≡◌, ◌+◌, ◌-◌, ◌*◌, ◌^◌, ◌<◌, ◌≤◌, ◌++◌, length, replicate, vec_len, All, OnOk};
+ghost use Rattle.std.specs.Prelude.{◌≡◌, ◌+◌, ◌-◌, ◌*◌, ◌^◌, ◌<◌, ◌≤◌, ◌++◌, length, replicate, All, OnOk};
 ghost use Rattle.std.specs.List.{flat_map};
 ghost use Rattle.elf_image.specs.Layout.{IsSegment};
 ghost use Rattle.guest_asm.specs.ElfFile.{gap, placed, contents, program_bytes};
@@ -60,7 +60,7 @@ fn put_zeros(out: &mut Vec<u8>, n: u64) -> Result<(), AllocError>
 // Appends the segments' bytes, each behind zeros that bring its offset in step with its address.
 pub(crate) fn put_contents(out: &mut Vec<u8>, segments: &[Segment]) -> Result<(), AllocError>
     requires { All IsSegment segments.now }
-    ensures { OnOk result (out.new.items ≡ out.old.items ++ contents (vec_len out.old) segments.now) }
+    ensures { OnOk result (out.new.items ≡ out.old.items ++ contents (length out.old.items) segments.now) }
 {
     for s in segments {
         put_zeros(out, gap(out.len() as u64, s.at))?;

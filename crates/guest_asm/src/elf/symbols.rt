@@ -6,7 +6,7 @@ ghost use Rattle.guest_asm.specs.ElfFile.{name_at, no_symbol, section_of, string
 
 use crate::elf::field::put;
 use crate::elf::header::Symbol;
-use elf_image::{Function, Image, LibPlace, Segment};
+use elf_image::{Function, LibPlace, Segment};
 use std::alloc::AllocError;
 
 /// The section of a symbol that is in no section.
@@ -73,7 +73,8 @@ fn section_of(segments: &[Segment], a: u64) -> u16
 #[tactic(auto, unfolding(crate::specs::ElfFile::symbol_of))]
 fn symbol_of(segments: &[Segment], p: LibPlace) -> Symbol
     requires { length segments.now ≤ 16 }
-    ensures { result ≡ symbol_of segments.now p }
+    ensures value { result ≡ symbol_of segments.now p }
+    ensures fits { p.at < 2 ^ 64 }
 {
     Symbol {
         name: name_at(p.function),
@@ -96,16 +97,19 @@ fn no_symbol() -> Symbol
     }
 }
 
-// Appends the symbols of the image's places.
-#[tactic(auto, unfolding(crate::specs::ElfFile::symbols))]
-pub(crate) fn put_symbols(out: &mut Vec<u8>, image: &Image) -> Result<(), AllocError>
-    requires { length image.now.segments ≤ 16 }
-    ensures bytes { OnOk result (out.new.items ≡ out.old.items ++ flat_map symbol_bytes (symbols image.now)) }
-    ensures values { OnOk result (All (λ p. p.at < 2 ^ 64) image.now.entries) }
+// Appends the symbols of the places, whose addresses are below 2^64.
+pub(crate) fn put_symbols(
+    out: &mut Vec<u8>,
+    segments: &[Segment],
+    places: &[LibPlace],
+) -> Result<(), AllocError>
+    requires { length segments.now ≤ 16 }
+    ensures bytes { OnOk result (out.new.items ≡ out.old.items ++ flat_map symbol_bytes (symbols segments.now places.now)) }
+    ensures values { OnOk result (All (λ p. p.at < 2 ^ 64) places.now) }
 {
     put(out, &no_symbol().fields())?;
-    for p in &image.entries {
-        put(out, &symbol_of(&image.segments, *p).fields())?;
+    for p in places {
+        put(out, &symbol_of(segments, *p).fields())?;
     }
     Ok(())
 }
