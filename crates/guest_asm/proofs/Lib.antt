@@ -3,3 +3,4 @@ pub mod ElfParts
 pub mod ElfSegments
 pub mod ElfSymbols
 pub mod ElfWritten
+pub mod RowImages

@@ -1,2 +1,3 @@
 pub mod ElfField
 pub mod ElfFile
+pub mod RowImage
