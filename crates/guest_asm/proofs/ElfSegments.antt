@@ -1,17 +1,18 @@
 -- Segments that are loaded from the written headers and bytes.
-use Rattle.std.proofs.Common.{◌≡◌, ℕ, ◌+◌, ◌-◌, ◌*◌, ◌^◌, ◌<◌, ◌≤◌, Bool, true, false, cond, ◌&&◌, ◌||◌, nat_lt, nat_le, ◌==◌, List, [], ◌∷◌, ◌++◌, length, map, get_or, replicate, bit_and, sum_by, count_by, sym, refl, ap, ◌∙◌, suc, arith, length-append, append_assoc}
+use Rattle.std.proofs.Common.{◌≡◌, ℕ, ◌+◌, ◌-◌, ◌*◌, ◌%◌, ◌^◌, ◌<◌, ◌≤◌, Bool, true, false, cond, ◌&&◌, ◌||◌, nat_lt, nat_le, ◌==◌, List, [], ◌∷◌, ◌++◌, length, map, get_or, replicate, bit_and, sum_by, count_by, sym, refl, ap, ◌∙◌, suc, arith, length-append, append_assoc}
 use Rattle.std.specs.Prelude.{All, AllPairs, filter, not, if◌then◌else◌}
 use Rattle.std.specs.List.{list_any}
 use Rattle.std.proofs.lemmas.Bool.Decides.{nat_tests}
 use Rattle.std.proofs.lemmas.Grind.{common_steps}
 use Rattle.std.proofs.lemmas.List.{length-replicate, append-nil}
-use Rattle.std.proofs.lemmas.List.Elements.{All-head, All-tail, All-nil, All-cons, All-map, All-weaker}
+use Rattle.std.proofs.lemmas.List.Elements.{All-head, All-tail, All-nil, All-cons, All-map, All-same, All-weaker}
 use Rattle.std.proofs.lemmas.List.Folds.{fold-map, list_any_none, list_any-from_Any}
 use Rattle.elf_image.specs.Layout.{SegmentData, IsSegment, IsApart, IsExecutable}
 use Rattle.elf_image.specs.Elf as elf
 use Rattle.elf_image.specs.Elf.{part, is_load, is_dynamic, is_readable, is_writable, is_executable, holds, passes_end}
 use Rattle.elf_image.specs.Loading.{segment_of, is_bad_load}
 use Rattle.elf_image.specs.Sound.{HasSegments}
+use Rattle.guest_asm.specs.PageAligned.{IsPageAligned}
 use Rattle.guest_asm.specs.ElfFile.{Placed, placed, contents, gap, flags_of, program_bytes}
 use Rattle.guest_asm.proofs.ElfReading.{part_found, ProgramReads, program_reads}
 
@@ -75,11 +76,16 @@ pub record IsPlaced (bytes : List ℕ) (p : Placed) : Type 0 where
   pub stands : part p.offset p.segment.size bytes ≡ p.segment.bytes
   pub inside : p.offset + p.segment.size ≤ length bytes
   pub offset : p.offset < 2 ^ 64
+  pub aligned : p.offset % 4096 ≡ p.segment.at % 4096
   pub segment : IsSegment p.segment
 
 gap_small : (end at : ℕ) → gap end at < 4096
 unfolding gap
 gap_small end at = omega arith
+
+gap_aligns : (end at : ℕ) → (end + gap end at) % 4096 ≡ at % 4096
+unfolding gap
+gap_aligns end at = omega arith
 
 pub all_placed : (ss : List SegmentData) (a bytes : List ℕ) (end : ℕ) → bytes ≡ a ++ contents end ss → length a ≡ end → All IsSegment ss → end + (2 ^ 47 + 4096) * length ss ≤ 2 ^ 64 → All (IsPlaced bytes) (placed end ss)
 all_placed [] a bytes end is at good small = All-nil (IsPlaced bytes)
@@ -96,13 +102,14 @@ all_placed (s ∷ ss) a bytes end is at good small =
     let split : bytes ≡ (a ++ zeros) ++ (s.bytes ++ more) = is ∙ sym (append_assoc a zeros (s.bytes ++ more)) in
     let again : bytes ≡ ((a ++ zeros) ++ s.bytes) ++ more = split ∙ sym (append_assoc (a ++ zeros) s.bytes more) in
     All-cons (IsPlaced bytes) (record { offset = offset; segment = s }) (placed (offset + s.size) ss)
-      (record {
-        stands = ap (part offset s.size) split ∙ part_found (a ++ zeros) s.bytes more offset s.size front first.filled;
-        inside = omega (arith, ap length again, length-append ((a ++ zeros) ++ s.bytes) more);
-        offset = omega arith;
-        segment = first;
-      })
-      (all_placed ss ((a ++ zeros) ++ s.bytes) bytes (offset + s.size) again past (All-tail IsSegment s ss good) (omega arith))
+    (record {
+      stands = ap (part offset s.size) split ∙ part_found (a ++ zeros) s.bytes more offset s.size front first.filled;
+      inside = omega (arith, ap length again, length-append ((a ++ zeros) ++ s.bytes) more);
+      offset = omega arith;
+      aligned = gap_aligns end s.at;
+      segment = first;
+    })
+    (all_placed ss ((a ++ zeros) ++ s.bytes) bytes (offset + s.size) again past (All-tail IsSegment s ss good) (omega arith))
 
 -- ---- one header
 
@@ -210,9 +217,13 @@ module _ (bytes : List ℕ) (ps : List Placed) (ss : List SegmentData) (read : e
     where
       total : sum_by (λ h. h.memsz) (elf.segment_headers bytes) ≡ sum_by (λ s. s.size) ss
       total = sym (fold-map (λ a s. a + s.size) (segment_of bytes) 0 (elf.segment_headers bytes)) ∙ ap (sum_by (λ s. s.size)) segments_are
+
       count : (a : ℕ) → count_by (holds a) (elf.segment_headers bytes) ≡ count_by (within a) ss
       count a = sym (fold-map (λ n s. n + cond (within a s) 1 0) (segment_of bytes) 0 (elf.segment_headers bytes)) ∙ ap (count_by (within a)) segments_are
 
   pub entry_found : (a : ℕ) → IsExecutable a ss → list_any (λ h. is_executable h && holds a h) (elf.segment_headers bytes) ≡ true
   unfolding enters within
   entry_found a some = sym (any_map (enters a) (segment_of bytes) (elf.segment_headers bytes)) ∙ ap (list_any (enters a)) segments_are ∙ some_enters a ss some
+
+  pub all_aligned : IsPageAligned bytes
+  all_aligned = All-same (λ h. h.offset % 4096 ≡ h.vaddr % 4096) (elf.segment_headers bytes) (map (λ p. elf.program_header (program_bytes p) 0) ps) headers_are (All-map (λ h. h.offset % 4096 ≡ h.vaddr % 4096) (λ p. elf.program_header (program_bytes p) 0) ps (each bytes ps all (λ p. (elf.program_header (program_bytes p) 0).offset % 4096 ≡ (elf.program_header (program_bytes p) 0).vaddr % 4096) (λ p here. let reads = reads_placed bytes p here in rw (reads.offset, reads.vaddr) here.aligned)))

@@ -13,10 +13,11 @@ use Rattle.elf_image.specs.Loading.{IsFaulty, IsImageOf, Clashes, is_bad_if_ther
 use Rattle.elf_image.specs.Sound.{HasHeaders}
 use Rattle.elf_image.specs.declared.place.LibPlace.{LibPlace}
 use Rattle.elf_image.proofs.Faults.{not_faulty}
+use Rattle.guest_asm.specs.PageAligned.{IsPageAligned}
 use Rattle.guest_asm.specs.ElfFile.{placed, gap, section_bytes, symbol_bytes, strings, section_names, sections, file_fields, section_fields, no_section, symbol_section, string_section, segment_section, symbols, symbols_at, strings_at, names_at, contents_at, file, CanWrite}
 use Rattle.guest_asm.proofs.ElfReading.{part_found, section_found, symbol_found, section_reads, length-section, length-symbol, table_found}
 use Rattle.guest_asm.proofs.ElfParts.{head, section_list, section_table, symbol_table, rest, parts_of, before_sections, before_symbols, before_strings, before_rest, at_sections, at_symbols, at_strings, at_rest, file_is, header_reads, programs_read, sections_read, length-before_sections, length-before_symbols, length-before_strings, length-before_rest, length-file_is, length-symbols, length-strings}
-use Rattle.guest_asm.proofs.ElfSegments.{IsPlaced, all_placed, segments_are, segments_sound, entry_found}
+use Rattle.guest_asm.proofs.ElfSegments.{IsPlaced, all_placed, segments_are, segments_sound, entry_found, all_aligned}
 use Rattle.guest_asm.proofs.ElfSymbols.{places_back}
 
 -- ---- the symbol table and its strings
@@ -134,10 +135,10 @@ module _ (m : ImageData) (can : CanWrite m) where
   file_sound =
       let good = can.image in
       not_faulty (file m) headers_good
-        (segments_sound (file m) (parts_of m) m.segments (programs_read m can) parts_placed segments_of_parts good.apart good.size)
-        symbols_good
-        (λ clash. no_clash m.entries good.rising (rw places_are at clash))
-        (rw (header_reads m can).entry (entry_found (file m) (parts_of m) m.segments (programs_read m can) parts_placed segments_of_parts m.entry good.entry))
+      (segments_sound (file m) (parts_of m) m.segments (programs_read m can) parts_placed segments_of_parts good.apart good.size)
+      symbols_good
+      (λ clash. no_clash m.entries good.rising (rw places_are at clash))
+      (rw (header_reads m can).entry (entry_found (file m) (parts_of m) m.segments (programs_read m can) parts_placed segments_of_parts m.entry good.entry))
 
   pub file_image : IsImageOf (file m) m
   file_image = record {
@@ -145,6 +146,9 @@ module _ (m : ImageData) (can : CanWrite m) where
     segments = sym (segments_are (file m) (parts_of m) m.segments (programs_read m can) parts_placed segments_of_parts);
     entries = rw places_are (record { rising = can.image.rising; same = λ p. (λ h. h, λ h. h) });
   }
+
+  pub file_aligned : IsPageAligned (file m)
+  file_aligned = all_aligned (file m) (parts_of m) m.segments (programs_read m can) parts_placed segments_of_parts
 
 -- ---- by the writer's answer
 
@@ -159,3 +163,7 @@ module _ (m written : ImageData) (same : written ≡ m) (good : IsImage m) (few 
   pub sound_written : {V E : Type 0} (items : V → List ℕ) (r : Result V E) → IfOk r (λ v. items v ≡ file written) → OnOk r (All (λ p. p.at < 2 ^ 64) written.entries) → IfOk r (λ v. ¬ IsFaulty (items v))
   sound_written items (Ok v) bytes values = rw bytes (file_sound written (can_write values))
   sound_written items (Err e) bytes values = tt
+
+  pub aligned_written : {V E : Type 0} (items : V → List ℕ) (r : Result V E) → IfOk r (λ v. items v ≡ file written) → OnOk r (All (λ p. p.at < 2 ^ 64) written.entries) → IfOk r (λ v. IsPageAligned (items v))
+  aligned_written items (Ok v) bytes values = rw bytes (file_aligned written (can_write values))
+  aligned_written items (Err e) bytes values = tt

@@ -4,6 +4,7 @@ ghost use Rattle.std.specs.Prelude.{◌≡◌, ◌+◌, ◌*◌, ◌^◌, ◌<�
 ghost use Rattle.elf_image.specs.Layout.{IsSegment};
 ghost use Rattle.elf_image.specs.Loading.{IsFaulty, IsImageOf};
 ghost use Rattle.guest_asm.specs.ElfFile.{file};
+ghost use Rattle.guest_asm.specs.PageAligned.{IsPageAligned};
 
 use crate::elf::field::put;
 use crate::elf::header::file_fields;
@@ -60,6 +61,8 @@ pub fn write_elf(alloc: Global, image: &Image) -> Result<Vec<u8>, AllocError>
     ensures image { IfOk result (λ bytes. IsImageOf bytes.items image.now) }
     // No fault of a file fits them.
     ensures sound { IfOk result (λ bytes. ¬ IsFaulty bytes.items) }
+    // A segment's offset is its address, modulo a page.
+    ensures aligned { IfOk result (λ bytes. IsPageAligned bytes.items) }
 {
     image.facts();
     file_of(alloc, image.entry, &image.segments, &image.entries)

@@ -52,9 +52,16 @@ fn the_row_image_has_its_pieces_and_is_read_back(rt: HostRuntime) -> Result<(), 
     let first = image.segment_at(0x40_1000).ok_or("code is there")?;
     let second = image.segment_at(0x40_2000).ok_or("data is there")?;
     assert!(rt; first.bytes.starts_with(&P2));
-    assert_eq!(rt; first.bytes.get(0x3f..0x44), Some([0xcc, 0x68, 0x69, 0x0a, 0xcc].as_slice()));
+    assert_eq!(rt;
+        first.bytes.get(0x3f..0x44),
+        Some([0xcc, 0x68, 0x69, 0x0a, 0xcc].as_slice())
+    );
     assert!(rt; first.bytes.ends_with(&[0xcc, 0xbf, 7]));
-    assert!(rt; second.bytes.starts_with(&[0, 0, 0, 0xe9, 0xf6, 0x0e, 0, 0, 0]));
+    assert!(rt;
+        second
+            .bytes
+            .starts_with(&[0, 0, 0, 0xe9, 0xf6, 0x0e, 0, 0, 0])
+    );
     assert_eq!(rt; (image.entry, image.entries.len()), (0x40_1000, 12));
     assert!(rt; is_read_back(alloc, &image)?);
     let exits = row_image(
@@ -66,5 +73,49 @@ fn the_row_image_has_its_pieces_and_is_read_back(rt: HostRuntime) -> Result<(), 
     )?;
     assert!(rt; is_read_back(alloc, &exits)?);
     assert!(rt; !is_same(&image, &exits));
+    Ok(())
+}
+
+fn put(bytes: &mut Vec<u8>, at: usize, number: u64) {
+    for (i, byte) in number.to_le_bytes().iter().enumerate() {
+        if let Some(b) = bytes.get_mut(at.saturating_add(i)) {
+            *b = *byte;
+        }
+    }
+}
+
+// The header of a file with no sections and sixteen segments of one zero byte, 0x800 bytes apart, the
+// first of which can be run and each other written.
+fn sixteen_segments(alloc: Global) -> Result<Vec<u8>, AllocError> {
+    let mut bytes = vec![in alloc; 0u8; 64 + 16 * 56]?;
+    for (at, number) in [
+        (0, 0x0001_0102_464c_457f),
+        (16, 0x0000_0001_003e_0002),
+        (24, 0x40_0000),
+        (32, 64),
+        (52, 0x0010_0038_0040),
+    ] {
+        put(&mut bytes, at, number);
+    }
+    for i in 0..16u64 {
+        let at = 64 + 56 * i as usize;
+        put(
+            &mut bytes,
+            at,
+            if i == 0 { 0x5_0000_0001 } else { 0x6_0000_0001 },
+        );
+        put(&mut bytes, at + 16, 0x40_0000 + 0x800 * i);
+        put(&mut bytes, at + 40, 1);
+    }
+    Ok(bytes)
+}
+
+#[test]
+fn sixteen_segments_and_no_places_are_read_back(rt: HostRuntime) -> Result<(), Fail> {
+    let alloc = rt.alloc();
+    let many = sixteen_segments(alloc)?;
+    let image = load(alloc, &many).ok().ok_or("the file is loaded")?;
+    assert_eq!(rt; (image.segments.len(), image.entries.len()), (16, 0));
+    assert!(rt; is_read_back(alloc, &image)?);
     Ok(())
 }

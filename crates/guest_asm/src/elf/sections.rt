@@ -146,7 +146,10 @@ pub(crate) fn put_sections(
     let layout = Layout::new(segments.len() as u64, places);
     put(out, &no_section().fields())?;
     put(out, &symbol_section(layout.symbols, places + 1).fields())?;
-    put(out, &string_section(9, layout.strings, STRINGS_SIZE).fields())?;
+    put(
+        out,
+        &string_section(9, layout.strings, STRINGS_SIZE).fields(),
+    )?;
     put(out, &string_section(17, layout.names, NAMES_SIZE).fields())?;
     put_segment_sections(out, layout.contents, segments)
 }

@@ -52,9 +52,7 @@ fn name_at(f: Function) -> u32
 fn segment_with(segments: &[Segment], a: u64) -> Option<usize>
     ensures { result ≡ position (λ s. nat_le s.at a && nat_lt a (s.at + s.size)) segments.now }
 {
-    segments
-        .iter()
-        .position(|s| s.at <= a && a - s.at < s.size)
+    segments.iter().position(|s| s.at <= a && a - s.at < s.size)
 }
 
 // The section of the segment that has the address.
