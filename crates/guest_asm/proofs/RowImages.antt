@@ -1,11 +1,10 @@
 -- The row image is an image.
-use Rattle.std.proofs.Common.{◌≡◌, ℕ, ◌+◌, ◌<◌, ◌≤◌, Bool, true, false, ◌&&◌, nat_lt, nat_le, List, [], ◌∷◌, ◌++◌, length, map, get_or, sym, refl, ap, suc, zero, arith, sum_by}
+use Rattle.std.proofs.Common.{◌≡◌, ℕ, ◌<◌, Bool, true, false, ◌&&◌, nat_lt, List, [], ◌∷◌, ◌++◌, length, refl, suc, zero, arith}
 use Rattle.std.specs.Prelude.{All, AllPairs}
-use Rattle.std.specs.List.{range_with_len}
 use Rattle.std.proofs.lemmas.Bool.Decides.{nat_tests}
 use Rattle.std.proofs.lemmas.List.FromFn.{length-map-range_with_len}
-use Rattle.std.proofs.lemmas.List.Elements.{All-nil, All-cons, All-tail, All-weaker}
-use Rattle.elf_image.specs.Layout.{SegmentData, ImageData, IsApart, IsWithin, IsSegment, IsBelow, IsImage}
+use Rattle.std.proofs.lemmas.List.Elements.{All-nil, All-cons, All-weaker}
+use Rattle.elf_image.specs.Layout.{SegmentData, IsApart, IsSegment, IsBelow, IsImage}
 use Rattle.elf_image.specs.declared.place.LibPlace.{LibPlace}
 use Rattle.guest_asm.specs.declared.rows.Piece.{Piece}
 use Rattle.guest_asm.specs.RowImage.{byte_at, row_bytes, row_places, row_data}

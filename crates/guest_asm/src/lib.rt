@@ -1,4 +1,12 @@
-//! ELF files of guests.
+//! Guest programs as files: an image written as an ELF64 file, and the image of the worked programs.
+//!
+//! [`write_elf`] gives the bytes of a static program. Its contract cites what `elf_image` says of
+//! bytes: which image they are (`IsImageOf`), and that no fault fits them (`IsFaulty`, both in
+//! `specs/Loading.antt` there); `IsPageAligned` (`specs/PageAligned.antt`) says where segments stand.
+//! How the file is laid out (`specs/ElfFile.antt`) is this crate's own matter.
+//!
+//! [`row_image`] makes the image in which the worked programs stand, exactly `row_data`
+//! (`specs/RowImage.antt`), for tests of this crate and of others.
 #![tactic(auto)]
 
 mod elf;

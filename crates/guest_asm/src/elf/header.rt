@@ -9,14 +9,38 @@ ghost use Rattle.guest_asm.specs.ElfFile.{file_fields, flags_of, program_fields,
 use crate::elf::field::Field;
 use elf_image::Segment;
 
-const PAGE: u64 = 4096;
+/// The bytes 7F, `E`, `L` and `F`.
+const ELF_MAGIC: u32 = 0x464c_457f;
 
-/// The size of the file header, of a program header and of a section header.
+const ELFCLASS64: u8 = 2;
+
+const ELFDATA2LSB: u8 = 1;
+
+const EV_CURRENT: u8 = 1;
+
+const ET_EXEC: u16 = 2;
+
+const EM_X86_64: u16 = 62;
+
+/// The sizes of a file header, of a program header and of a section header.
 const EHSIZE: u16 = 64;
 
 const PHENTSIZE: u16 = 56;
 
 const SHENTSIZE: u16 = 64;
+
+/// The section with the names of the sections.
+const SHSTRNDX: u16 = 3;
+
+const PT_LOAD: u32 = 1;
+
+const PF_X: u32 = 1;
+
+const PF_W: u32 = 2;
+
+const PF_R: u32 = 4;
+
+const PAGE: u64 = 4096;
 
 /// A section header.
 #[derive(Clone, Copy)]
@@ -50,14 +74,14 @@ pub(crate) fn file_fields(entry: u64, segments: u16) -> [Field; 19]
     ensures { result ≡ file_fields entry segments }
 {
     [
-        Field::Word(0x464c_457f),
-        Field::Byte(2),
-        Field::Byte(1),
-        Field::Byte(1),
+        Field::Word(ELF_MAGIC),
+        Field::Byte(ELFCLASS64),
+        Field::Byte(ELFDATA2LSB),
+        Field::Byte(EV_CURRENT),
         Field::Byte(0),
         Field::Xword(0),
-        Field::Half(2),
-        Field::Half(62),
+        Field::Half(ET_EXEC),
+        Field::Half(EM_X86_64),
         Field::Word(1),
         Field::Xword(entry),
         Field::Xword(64),
@@ -68,30 +92,31 @@ pub(crate) fn file_fields(entry: u64, segments: u16) -> [Field; 19]
         Field::Half(segments),
         Field::Half(SHENTSIZE),
         Field::Half(segments + 4),
-        Field::Half(3),
+        Field::Half(SHSTRNDX),
     ]
 }
 
-// The segment's rights: PF_R, PF_W, PF_X.
+// The segment's rights.
 #[tactic(auto, unfolding(crate::specs::ElfFile::flags_of))]
 fn flags_of(s: &Segment) -> u32
     ensures { result ≡ flags_of s.now }
 {
-    (if s.r { 4 } else { 0 }) + (if s.w { 2 } else { 0 }) + (if s.x { 1 } else { 0 })
+    (if s.r { PF_R } else { 0 }) + (if s.w { PF_W } else { 0 }) + (if s.x { PF_X } else { 0 })
 }
 
-// The header of a segment, of type PT_LOAD, whose bytes stand at the offset.
+// The header of a segment whose bytes stand at the offset, all of them.
 #[tactic(auto, unfolding(crate::specs::ElfFile::program_fields))]
 pub(crate) fn program_fields(offset: u64, s: &Segment) -> [Field; 8]
     ensures { result ≡ program_fields (record { offset = offset; segment = s.now }) }
 {
+    let filesz = s.size;
     [
-        Field::Word(1),
+        Field::Word(PT_LOAD),
         Field::Word(flags_of(s)),
         Field::Xword(offset),
         Field::Xword(s.at),
         Field::Xword(s.at),
-        Field::Xword(s.size),
+        Field::Xword(filesz),
         Field::Xword(s.size),
         Field::Xword(PAGE),
     ]

@@ -18,7 +18,11 @@ const SHT_SYMTAB: u32 = 2;
 
 const SHT_STRTAB: u32 = 3;
 
+const SHF_WRITE: u64 = 1;
+
 const SHF_ALLOC: u64 = 2;
+
+const SHF_EXECINSTR: u64 = 4;
 
 // The names of the sections, each behind a zero byte.
 #[tactic(auto, unfolding(crate::specs::ElfFile::section_names))]
@@ -100,7 +104,9 @@ fn segment_section(offset: u64, s: &Segment) -> Section
             39
         },
         kind: SHT_PROGBITS,
-        flags: SHF_ALLOC + (if s.w { 1 } else { 0 }) + (if s.x { 4 } else { 0 }),
+        flags: SHF_ALLOC
+            + (if s.w { SHF_WRITE } else { 0 })
+            + (if s.x { SHF_EXECINSTR } else { 0 }),
         at: s.at,
         offset,
         size: s.size,

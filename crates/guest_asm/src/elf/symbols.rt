@@ -12,6 +12,12 @@ use std::alloc::AllocError;
 /// The section of a symbol that is in no section.
 const SHN_ABS: u16 = 0xfff1;
 
+/// The section of the first segment; those of the others follow.
+const FIRST_SECTION: u16 = 4;
+
+/// `STB_GLOBAL` and `STT_FUNC`.
+const GLOBAL_FUNC: u8 = 0x12;
+
 // How many places there are. Each takes 16 bytes of memory.
 pub(crate) fn count_of(places: &[LibPlace]) -> u64
     ensures value { result ≡ length places.now }
@@ -62,7 +68,7 @@ fn section_of(segments: &[Segment], a: u64) -> u16
     ensures { result ≡ section_of a segments.now }
 {
     match segment_with(segments, a) {
-        Some(i) => i as u16 + 4,
+        Some(i) => i as u16 + FIRST_SECTION,
         None => SHN_ABS,
     }
 }
@@ -76,7 +82,7 @@ fn symbol_of(segments: &[Segment], p: LibPlace) -> Symbol
 {
     Symbol {
         name: name_at(p.function),
-        info: 0x12,
+        info: GLOBAL_FUNC,
         section: section_of(segments, p.at),
         value: p.at,
     }

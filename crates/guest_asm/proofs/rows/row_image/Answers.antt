@@ -1,8 +1,8 @@
 -- What is pushed is the row image, which is an image.
-use Rattle.std.proofs.Common.{◌≡◌, length, ap, ◌∙◌}
+use Rattle.std.proofs.Common.{◌≡◌}
 use Rattle.elf_image.specs.Layout.{ImageData}
 use Rattle.guest_asm.specs.RowImage.{row_data}
-use Rattle.guest_asm.proofs.RowImages.{code_is, data_is, row_is, row_made, row_has_two}
+use Rattle.guest_asm.proofs.RowImages.{code_is, data_is, row_is, row_made}
 use Rattle.guest_asm.proofs.rows.row_image.Goals as goal
 
 pub invariant_of-code : goal.invariant_of-code
