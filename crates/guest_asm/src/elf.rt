@@ -22,7 +22,7 @@ mod sections;
 mod segments;
 mod symbols;
 
-// The bytes of the file.
+// The file of an image with this entry, these segments and these places of the library.
 fn file_of(
     alloc: Global,
     entry: u64,

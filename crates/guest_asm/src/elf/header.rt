@@ -40,7 +40,8 @@ const PF_W: u32 = 2;
 
 const PF_R: u32 = 4;
 
-const PAGE: u64 = 4096;
+/// The size of a page, to which segments are aligned.
+pub(crate) const PAGE: u64 = 4096;
 
 /// A section header.
 #[derive(Clone, Copy)]

@@ -6,11 +6,9 @@ ghost use Rattle.elf_image.specs.Layout.{IsSegment};
 ghost use Rattle.guest_asm.specs.ElfFile.{gap, placed, contents, program_bytes};
 
 use crate::elf::field::put;
-use crate::elf::header::program_fields;
+use crate::elf::header::{PAGE, program_fields};
 use elf_image::Segment;
 use std::alloc::AllocError;
-
-const PAGE: u64 = 4096;
 
 // How many zeros bring the offset in step with the address, modulo a page.
 #[tactic(auto, unfolding(crate::specs::ElfFile::gap))]
@@ -50,6 +48,7 @@ pub(crate) fn put_programs(
     Ok(())
 }
 
+// Appends so many zeros, less than a page.
 fn put_zeros(out: &mut Vec<u8>, n: u64) -> Result<(), AllocError>
     requires { n < 4096 }
     ensures { OnOk result (out.new.items ≡ out.old.items ++ replicate n 0) }
