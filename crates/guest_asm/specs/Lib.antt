@@ -1,0 +1,9 @@
+pub mod Places
+pub mod Pieces
+pub mod Encodable
+pub mod Choices
+pub mod Assembling
+pub mod ElfField
+pub mod ElfFile
+pub mod PageAligned
+pub mod RowImage
