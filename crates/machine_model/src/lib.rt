@@ -8,6 +8,4 @@
 #![tactic(auto)]
 
 pub mod case;
-pub mod ending;
 pub mod first;
-pub mod journal;
