@@ -6,3 +6,5 @@ pub mod Spelled
 pub mod Found
 pub mod Onward
 pub mod Runs
+pub mod RowLives
+pub mod Walks

@@ -1,5 +1,5 @@
 -- The plain machine at one moment: 64 threads, x86-TSO memory, the library.
-use Rattle.std.specs.Prelude.{ℕ, List, [], replicate, slice_index_or, slice_set, Option, None}
+use Rattle.std.specs.Prelude.{ℕ, Bool, List, [], replicate, slice_index_or, slice_set, Option, None}
 use Rattle.callbacks.specs.declared.Frame.{Frame}
 use Rattle.guest_map.specs.Entry.{entry_rsp}
 use Rattle.guest_map.specs.Layout.{pieces}

@@ -17,6 +17,7 @@ use Rattle.lib_table.specs.Library as library
 use Rattle.lib_table.specs.Outcome.{RowResult, Done, Waits, Bad, a1, low_32}
 use Rattle.lib_table.specs.Row.{row, is_waiting}
 use Rattle.miss_report.specs.declared.miss.Miss.{Miss as MissData}
+use Rattle.tso_memory.specs.declared.access.Access.{Access as Right}
 use Rattle.tso_memory.specs.declared.access.Access.TheVariants as access
 use Rattle.tso_memory.specs.declared.change.Change as memory_change
 use Rattle.tso_memory.specs.declared.write.PendingWrite.{PendingWrite}
@@ -67,7 +68,7 @@ abbrev pub answered : Cpu → ℕ → Cpu
 answered cpu v = record cpu { mid = Some v }
 
 -- the first of so many bytes from an address that lacks a right
-abbrev pub refused : Machine → access.Access → ℕ → ℕ → Option ℕ
+abbrev pub refused : Machine → Right → ℕ → ℕ → Option ℕ
 refused m right a n = first_denied (may m.tso.memory right) a n
 
 -- ---- memory: t is the thread, cpu what it works on, and the last argument the first refused address, if there is one

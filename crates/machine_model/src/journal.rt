@@ -70,7 +70,7 @@ pub struct Journal {
 
 impl Model for Journal {
     ghost use Rattle.std.specs.Prelude.{List};
-    ghost use Rattle.machine_model.specs.declared.first.journal.Entry.{Entry};
+    ghost use Rattle.machine_model.specs.declared.journal.Entry.{Entry};
 
     ghost Value = { List Entry };
 

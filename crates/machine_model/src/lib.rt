@@ -18,3 +18,4 @@ pub mod case;
 pub mod ending;
 pub mod first;
 pub mod journal;
+pub mod laws;

@@ -1,0 +1,20 @@
+//! What the definitions come to: each law is the contract of a function that does nothing.
+
+ghost use Rattle.std.specs.Prelude.{◌≡◌, List, [], ◌∷◌, ◌++◌, None, Some, option_and_then};
+ghost use Rattle.machine_model.specs.declared.ending.RunEnd.{RunEnd};
+ghost use Rattle.machine_model.specs.declared.journal.Entry.{Entry};
+ghost use Rattle.machine_model.specs.CaseData.{CaseData};
+ghost use Rattle.machine_model.specs.State.{Machine};
+ghost use Rattle.machine_model.specs.Step.{step};
+ghost use Rattle.machine_model.specs.Play.{play};
+
+/// A journal and one more entry is one step more.
+pub fn played_step_by_step()
+    ensures { (c : CaseData) (journal : List Entry) (e : Entry) → play c (journal ++ e ∷ []) ≡ option_and_then (λ m. step c m e) (play c journal) }
+{}
+
+/// After an ending nothing is a step.
+pub fn nothing_after_an_ending()
+    ensures step { (c : CaseData) (m : Machine) (e : Entry) (end : RunEnd) → m.ending ≡ Some end → step c m e ≡ None }
+    ensures journal { (c : CaseData) (m : Machine) (journal : List Entry) (e : Entry) (end : RunEnd) → play c journal ≡ Some m → m.ending ≡ Some end → play c (journal ++ e ∷ []) ≡ None }
+{}
