@@ -8,3 +8,4 @@ pub mod Onward
 pub mod Runs
 pub mod RowLives
 pub mod Walks
+pub mod Independence

@@ -1,11 +1,11 @@
 //! What the definitions come to: each law is the contract of a function that does nothing.
 
-ghost use Rattle.std.specs.Prelude.{◌≡◌, List, [], ◌∷◌, ◌++◌, None, Some, option_and_then};
+ghost use Rattle.std.specs.Prelude.{◌≡◌, ◌≢◌, ℕ, true, List, [], ◌∷◌, ◌++◌, None, Some, option_and_then};
 ghost use Rattle.machine_model.specs.declared.ending.RunEnd.{RunEnd};
 ghost use Rattle.machine_model.specs.declared.journal.Entry.{Entry};
 ghost use Rattle.machine_model.specs.CaseData.{CaseData};
-ghost use Rattle.machine_model.specs.State.{Machine};
-ghost use Rattle.machine_model.specs.Step.{step};
+ghost use Rattle.machine_model.specs.State.{Machine, is_live, list_at, thread_at};
+ghost use Rattle.machine_model.specs.Step.{step, thread_of};
 ghost use Rattle.machine_model.specs.Play.{play};
 
 /// A journal and one more entry is one step more.
@@ -17,4 +17,11 @@ pub fn played_step_by_step()
 pub fn nothing_after_an_ending()
     ensures step { (c : CaseData) (m : Machine) (e : Entry) (end : RunEnd) → m.ending ≡ Some end → step c m e ≡ None }
     ensures journal { (c : CaseData) (m : Machine) (journal : List Entry) (e : Entry) (end : RunEnd) → play c journal ≡ Some m → m.ending ≡ Some end → play c (journal ++ e ∷ []) ≡ None }
+{}
+
+/// An entry changes the registers, flags, addresses, loaded value, searches and life of no other live thread than the one
+/// that it names, and the waiting writes of no other thread.
+pub fn other_threads_stay()
+    ensures thread { (c : CaseData) (m n : Machine) (e : Entry) → step c m e ≡ Some n → (u : ℕ) → u ≢ thread_of e → is_live m u ≡ true → thread_at n u ≡ thread_at m u }
+    ensures writes { (c : CaseData) (m n : Machine) (e : Entry) → step c m e ≡ Some n → (u : ℕ) → u ≢ thread_of e → list_at n u ≡ list_at m u }
 {}
