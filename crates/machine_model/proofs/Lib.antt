@@ -9,3 +9,4 @@ pub mod Runs
 pub mod RowLives
 pub mod Walks
 pub mod Independence
+pub mod Costs
