@@ -118,7 +118,7 @@ open_le (Some e) = omega arith
 lt_of : (a b : ℕ) → nat_lt a b ≡ true → a < b
 lt_of a b h = grind (arith, nat_tests)
 
-both_of : (a b : Bool) → (a && b) ≡ true → (a ≡ true) × (b ≡ true)
+pub both_of : (a b : Bool) → (a && b) ≡ true → (a ≡ true) × (b ≡ true)
 both_of true true h = (refl, refl)
 both_of true false h = absurd (let e : false ≡ true = h in cc)
 both_of false true h = absurd (let e : false ≡ true = h in cc)

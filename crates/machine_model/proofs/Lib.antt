@@ -10,3 +10,4 @@ pub mod RowLives
 pub mod Walks
 pub mod Independence
 pub mod Costs
+pub mod Gates

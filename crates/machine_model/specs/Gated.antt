@@ -6,7 +6,7 @@ use Rattle.x86_model.specs.Want.{want}
 use Rattle.machine_model.specs.declared.journal.Entry.{Entry}
 use Rattle.machine_model.specs.declared.journal.Entry.TheVariants.{Ev, Tick, Flush, Wait, Miss, Grow, Over, Full, Dead}
 use Rattle.machine_model.specs.CaseData.{CaseData}
-use Rattle.machine_model.specs.State.{Machine, start}
+use Rattle.machine_model.specs.State.{Machine, list_at, start, thread_at}
 use Rattle.machine_model.specs.Step.{cpu_at, is_code_place, privately, private_of, step, thread_of}
 use Rattle.machine_model.specs.Span.{span}
 use Rattle.machine_model.specs.Reach.{is_among, IsReach}
@@ -194,3 +194,20 @@ Leads c b (e ∷ es) n = (x : Both) × (advance c b e ≡ Some x) × IsAllowed c
 -- a played journal that runs only what is grown
 abbrev pub IsGated : CaseData → List Entry → Type 0
 IsGated c journal = (n : Both) × Leads c (begin c) journal n
+
+-- ---- one thread in a walk
+
+-- every grown place stays grown
+abbrev pub Within : List ℕ → List ℕ → Type 0
+Within old new = (a : ℕ) → is_among old a ≡ true → is_among new a ≡ true
+
+-- where a thread stands
+abbrev pub stand_at : Both → ℕ → Stand
+stand_at b t = record { cpu = cpu_at b.machine t; left = (spot_at b.gate t).left }
+
+-- nothing of a thread changed, and places were grown at most
+pub record Untouched (old new : Both) (t : ℕ) : Type 0 where
+  pub thread : thread_at new.machine t ≡ thread_at old.machine t
+  pub writes : list_at new.machine t ≡ list_at old.machine t
+  pub spot : spot_at new.gate t ≡ spot_at old.gate t
+  pub grown : Within old.gate.grown new.gate.grown
