@@ -1,8 +1,7 @@
 -- The library's data in the guest's terms: which threads live, who holds which mutex, the input and the outputs.
-use Rattle.std.specs.Prelude.{ℕ, ◌+◌, ◌-◌, ◌*◌, ◌==◌, Bool, true, false, if◌then◌else◌, List, [], ◌∷◌, replicate, position, slice_index_or, slice_set, Option, Some, None, is_some, refl}
-use Rattle.std.specs.Coded.{Coded, code_by, coded×, coded_list, coded_ℕ}
+use Rattle.std.specs.Prelude.{ℕ, ◌+◌, ◌-◌, ◌*◌, ◌==◌, Bool, true, false, if◌then◌else◌, List, [], ◌∷◌, ◌++◌, drop, replicate, position, slice_index_or, slice_set, Option, Some, None, is_some}
 use Rattle.std.specs.Ordering.{nat_cmp}
-use Rattle.std.specs.FinMap.{FinMap, code, empty, get, insert, remove}
+use Rattle.std.specs.FinMap.{FinMap, empty, get, insert, remove}
 use Rattle.lib_table.specs.declared.life.Life.{Life}
 use Rattle.lib_table.specs.declared.life.Life.TheVariants.{Unborn, Live, Ended, Joined}
 use Rattle.lib_table.specs.declared.limits.TheConstants.{THREADS}
@@ -84,3 +83,13 @@ with_held l a t = record l { held = insert l.held a t }
 
 abbrev pub without_held : LibraryData → ℕ → LibraryData
 without_held l a = record l { held = remove l.held a }
+
+-- input and output
+
+-- after the next n bytes of the input were given
+abbrev pub with_input : LibraryData → ℕ → LibraryData
+with_input l n = record l { input = drop n l.input }
+
+-- with bytes appended to output 1, or to output 2
+abbrev pub with_output : LibraryData → ℕ → List ℕ → LibraryData
+with_output l fd bytes = if fd == 1 then record l { out1 = l.out1 ++ bytes } else record l { out2 = l.out2 ++ bytes }

@@ -1,5 +1,5 @@
 -- What comes of a request, and the words in which the functions of the library are told.
-use Rattle.std.specs.Prelude.{ℕ, ◌+◌, ◌%◌, ◌^◌, false, List, length, slice_index, Option, Some, None}
+use Rattle.std.specs.Prelude.{ℕ, ◌+◌, ◌%◌, ◌^◌, false, slice_index, Option, Some, None}
 use Rattle.byteorder.specs.Endian.{little_bytes}
 use Rattle.tso_memory.specs.declared.access.Access.TheVariants.{Load, Store}
 use Rattle.tso_memory.specs.Memory.{Memory, byte_of, may, first_denied, number_from, put_bytes}

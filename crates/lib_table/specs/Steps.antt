@@ -2,7 +2,7 @@
 use Rattle.std.specs.Prelude.{◌≡◌, ℕ, ◌<◌, Bool, true, false, not, Option, Some, None, ⊤}
 use Rattle.elf_image.specs.declared.place.Function.{Function}
 use Rattle.elf_image.specs.declared.place.Function.TheVariants.{MutexLock, MutexTrylock, Write}
-use Rattle.tso_memory.specs.Tso.{TsoState}
+use Rattle.tso_memory.specs.Memory.{Memory}
 use Rattle.callbacks.specs.declared.Frame.{Frame}
 use Rattle.lib_table.specs.declared.ask.Ask.{Ask}
 use Rattle.lib_table.specs.declared.ask.Asked.{Asked}
@@ -12,22 +12,16 @@ use Rattle.lib_table.specs.declared.answer.Stepped.TheVariants as stepped
 use Rattle.lib_table.specs.Library.{LibraryData, is_live, is_held}
 use Rattle.lib_table.specs.Outcome.{RowResult, Done, Waits, Bad, a1}
 
-abbrev pub stepped_by : RowResult → Stepped
-stepped_by (Done l m called) = stepped.Done called
-stepped_by Waits = stepped.Waits
-stepped_by (Bad kind) = stepped.Bad kind
+-- what came of a request, where this was answered, and this library and memory are left
+abbrev pub told : Stepped → LibraryData → Memory → RowResult
+told (stepped.Done called) l m = Done l m called
+told stepped.Waits l m = Waits
+told (stepped.Bad kind) l m = Bad kind
 
--- where it waits or is bad, the library stays as it was
-abbrev pub library_after : RowResult → LibraryData → LibraryData
-library_after (Done l m called) old = l
-library_after Waits old = old
-library_after (Bad kind) old = old
-
--- and the memory too; no store buffer changes
-abbrev pub memory_after : RowResult → TsoState → TsoState
-memory_after (Done l m called) old = record old { memory = m }
-memory_after Waits old = old
-memory_after (Bad kind) old = old
+abbrev pub is_done : Stepped → Bool
+is_done (stepped.Done called) = true
+is_done stepped.Waits = false
+is_done (stepped.Bad kind) = false
 
 -- the search, if there is one, has elements left
 abbrev pub HasLeft : Option Frame → Type 0

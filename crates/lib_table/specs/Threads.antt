@@ -1,5 +1,5 @@
 -- Threads: POSIX pthread_create, pthread_join and pthread_self. Ids are this project's own.
-use Rattle.std.specs.Prelude.{ℕ, ◌+◌, ◌-◌, ◌==◌, ◌&&◌, ◌||◌, nat_lt, if◌then◌else◌, Option, Some, None}
+use Rattle.std.specs.Prelude.{ℕ, ◌-◌, ◌==◌, if◌then◌else◌, Option, Some, None}
 use Rattle.tso_memory.specs.Memory.{Memory}
 use Rattle.callbacks.specs.declared.Frame.{Frame}
 use Rattle.lib_table.specs.declared.ask.Ask.{Ask}

@@ -1,5 +1,7 @@
 //! The life of a thread.
 
+ghost use Rattle.std.specs.Prelude.{◌≡◌};
+
 /// What has become of a thread's number.
 #[derive(Clone, Copy, Debug, PartialEq, Eq)]
 pub enum Life {
@@ -11,4 +13,14 @@ pub enum Life {
     Ended(u64),
     /// Another thread took the value.
     Joined,
+}
+
+impl Life {
+    ghost use Rattle.lib_table.specs.Library.{is_unborn};
+
+    pub(crate) fn is_unborn(&self) -> bool
+        ensures { result ≡ is_unborn self.now }
+    {
+        matches!(self, Life::Unborn)
+    }
 }
