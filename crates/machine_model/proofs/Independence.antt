@@ -1,13 +1,13 @@
 -- What an entry leaves of the threads that it doesn't name.
 use Rattle.std.proofs.Common.{◌≡◌, ◌≢◌, ℕ, ◌+◌, Bool, true, false, cond, List, [], ◌∷◌, ◌++◌, Option, Some, None, refl, sym, ap, ◌∙◌, subst, slice_set}
-use Rattle.std.specs.Prelude.{option_and_then}
+use Rattle.std.specs.Prelude.{option_and_then, find, not, ◌&&◌}
+use Rattle.std.specs.List.{range_with_len}
 use Rattle.std.proofs.lemmas.List.{get_or-set_other}
-use Rattle.std.proofs.lemmas.List.Quantifiers.{position-Some}
 use Rattle.std.proofs.lemmas.Option.{option_and_then_some, none-some, same_Some, cond_some}
 use Rattle.lib_table.specs.declared.ask.Asked.{Asked}
 use Rattle.lib_table.specs.declared.ask.Asked.TheVariants.{Lib}
 use Rattle.lib_table.specs.Library as library
-use Rattle.lib_table.specs.Library.{LibraryData, life_at, is_unborn, next_number, birth}
+use Rattle.lib_table.specs.Library.{LibraryData, life_at, birth}
 use Rattle.lib_table.specs.declared.life.Life.{Life}
 use Rattle.lib_table.specs.declared.life.Life.TheVariants.{Unborn}
 use Rattle.lib_table.specs.Outcome.{RowResult, Done, Waits, Bad}
@@ -28,7 +28,7 @@ use Rattle.machine_model.specs.CaseData.{CaseData}
 use Rattle.machine_model.specs.Conversions.{memory_width_of, memory_change_of, kind_of, asked_at}
 use Rattle.machine_model.specs.State.{Core, no_core, Machine, core_at, with_core, life_of, list_at, is_live, thread_at}
 use Rattle.machine_model.specs.Step.{loaded, stored, exchanged, flushed, newborn, with_birth, born_core, called, exit_by, row_at, ask_of, served, serving, carried_out, later, missed, refused, thread_of, private_of, admits, after_private, cpu_at, step_from, step}
-use Rattle.machine_model.proofs.RowLives.{row_lives, unborn_not_live}
+use Rattle.machine_model.proofs.RowLives.{row_lives}
 
 pub record Leaves (m n : Machine) (t : ℕ) : Type 0 where
   pub cores : (u : ℕ) → u ≢ t → is_live m u ≡ true → core_at n u ≡ core_at m u
@@ -68,12 +68,25 @@ leaves_exchanged : (m : Machine) (t : ℕ) (cpu : Cpu) (a n : ℕ) (change : Cha
 leaves_exchanged m t cpu a n change None = leaves_parts m t _ _ m.steps m.ending (λ u ne. refl)
 leaves_exchanged m t cpu a n change (Some x) = leaves_core m t _ m.steps _
 
+pub find_passes : (p : ℕ → Bool) (xs : List ℕ) (v : ℕ) → find p xs ≡ Some v → p v ≡ true
+find_passes p [] v e = absurd (none-some v e)
+find_passes p (x ∷ xs) v e =
+    elim (p x) as (λ b. p x ≡ b → cond b (Some x) (find p xs) ≡ Some v → p v ≡ true) [
+      | true ↦ λ h q. subst (λ y. p y ≡ true) (same_Some x v q) h
+      | false ↦ λ h q. find_passes p xs v q
+    ] refl e
+
 -- a live thread isn't the one that is born
 not_born : (m : Machine) (after : LibraryData) (u v : ℕ) → newborn m.library after ≡ Some v → is_live m u ≡ true → u ≢ v
-not_born m after u v e live =
-    option_and_then_some (λ x. cond (library.is_live after x) (Some x) None) (next_number m.library) v e (λ x p q.
-      let is : x ≡ v = (cond_some (library.is_live after x) x v q).1 in
-      subst (λ y. u ≢ y) is (unborn_not_live m.library u x p live))
+not_born m after u v e live same =
+    let p = find_passes (λ x. library.is_live after x && not (library.is_live m.library x)) (range_with_len 0 64) v e in
+    clash (library.is_live after v) (library.is_live m.library v) p (ap (λ x. library.is_live m.library x) (sym same) ∙ live)
+  where
+    clash : (a b : Bool) → (a && not b) ≡ true → b ≡ true → ⊥
+    clash true true p q = let e : false ≡ true = p in cc
+    clash true false p q = let e : false ≡ true = q in cc
+    clash false true p q = let e : false ≡ true = p in cc
+    clash false false p q = let e : false ≡ true = p in cc
 
 leaves_birth : (m n : Machine) (t : ℕ) (after : LibraryData) (o : Option ℕ) → newborn m.library after ≡ o → Leaves m n t → Leaves m (with_birth n o) t
 leaves_birth m n t after None e l = l

@@ -7,4 +7,5 @@ pub mod Play
 pub mod Span
 pub mod Reach
 pub mod Gated
+pub mod Plain
 pub mod First

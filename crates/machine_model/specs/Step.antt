@@ -1,6 +1,6 @@
 -- One step of the plain machine: what an entry of a journal does to it.
-use Rattle.std.specs.Prelude.{ℕ, zero, suc, ◌+◌, ◌-◌, ◌%◌, ◌^◌, Bool, true, false, ◌&&◌, ◌||◌, not, ◌==◌, nat_lt, nat_le, if◌then◌else◌, List, [], ◌∷◌, ◌++◌, length, take, replicate, slice_set, Option, Some, None, option_and_then, is_none}
-use Rattle.std.specs.List.{last_or, list_all, range_with_len}
+use Rattle.std.specs.Prelude.{ℕ, zero, suc, ◌+◌, ◌-◌, ◌%◌, ◌^◌, Bool, true, false, ◌&&◌, ◌||◌, not, ◌==◌, nat_lt, nat_le, if◌then◌else◌, List, [], ◌∷◌, ◌++◌, length, take, replicate, slice_get, slice_set, find, Option, Some, None, option_and_then, is_none}
+use Rattle.std.specs.List.{list_all, range_with_len}
 use Rattle.elf_image.specs.declared.place.Function.TheVariants as function
 use Rattle.elf_image.specs.Layout.{ImageData, function_at}
 use Rattle.callbacks.specs.declared.Frame.{Frame}
@@ -12,7 +12,7 @@ use Rattle.lib_table.specs.declared.answer.Called.TheVariants.{Back, Probe, Over
 use Rattle.lib_table.specs.declared.ask.Ask.{Ask}
 use Rattle.lib_table.specs.declared.ask.Asked.{Asked}
 use Rattle.lib_table.specs.declared.ask.Asked.TheVariants.{Lib, EndDoor, CallDoor}
-use Rattle.lib_table.specs.Library.{LibraryData, birth, next_number}
+use Rattle.lib_table.specs.Library.{LibraryData, birth}
 use Rattle.lib_table.specs.Library as library
 use Rattle.lib_table.specs.Outcome.{RowResult, Done, Waits, Bad, a1, low_32}
 use Rattle.lib_table.specs.Row.{row, is_waiting}
@@ -96,7 +96,7 @@ flushed m t (write ∷ writes) = Some (record m { tso = tso.flushed m.tso t (wri
 
 -- a request: the arguments are rdi, rsi, rdx, rcx and r8 (System V x86-64 psABI, section 3.2.3)
 abbrev pub ask_of : Core → Asked → Ask
-ask_of core what = record { what = what; args = reg core.cpu 7 ∷ reg core.cpu 6 ∷ reg core.cpu 2 ∷ reg core.cpu 1 ∷ reg core.cpu 8 ∷ []; rsp = reg core.cpu 4; rax = reg core.cpu 0; depth = length core.frames; top = last_or None core.frames }
+ask_of core what = record { what = what; args = reg core.cpu 7 ∷ reg core.cpu 6 ∷ reg core.cpu 2 ∷ reg core.cpu 1 ∷ reg core.cpu 8 ∷ []; rsp = reg core.cpu 4; rax = reg core.cpu 0; depth = length core.frames; top = slice_get core.frames (length core.frames - 1) }
 
 -- what comes of a thread's request
 abbrev pub row_at : Machine → ℕ → Core → Asked → RowResult
@@ -134,9 +134,9 @@ exit_by core (Lib f) = None
 exit_by core EndDoor = None
 exit_by core CallDoor = None
 
--- the next number was given: the library has that thread live
+-- the thread that lives after a request and didn't before: `pthread_create` bore it
 abbrev pub newborn : LibraryData → LibraryData → Option ℕ
-newborn before after = option_and_then (λ u. if library.is_live after u then Some u else None) (next_number before)
+newborn before after = find (λ u. library.is_live after u && not (library.is_live before u)) (range_with_len 0 64)
 
 -- a thread u is born: it calls its start function with its argument, below which it finds its return address; all else is 0
 abbrev pub born_core : ℕ → Option (ℕ × ℕ) → Core

@@ -19,3 +19,4 @@ pub mod ending;
 pub mod first;
 pub mod journal;
 pub mod laws;
+pub mod plain;
