@@ -1,7 +1,6 @@
 -- What an entry leaves of the threads that it doesn't name.
 use Rattle.std.proofs.Common.{◌≡◌, ◌≢◌, ℕ, ◌+◌, Bool, true, false, cond, List, [], ◌∷◌, ◌++◌, Option, Some, None, refl, sym, ap, ◌∙◌, subst, slice_set}
 use Rattle.std.specs.Prelude.{option_and_then, find, not, ◌&&◌}
-use Rattle.std.specs.List.{range_with_len}
 use Rattle.std.proofs.lemmas.List.{get_or-set_other}
 use Rattle.std.proofs.lemmas.Option.{option_and_then_some, none-some, same_Some, cond_some}
 use Rattle.lib_table.specs.declared.ask.Asked.{Asked}
@@ -26,7 +25,7 @@ use Rattle.machine_model.specs.declared.journal.Entry.{Entry}
 use Rattle.machine_model.specs.declared.journal.Entry.TheVariants.{Ev, Tick, Flush, Wait, Miss, Grow, Over, Full, Dead}
 use Rattle.machine_model.specs.CaseData.{CaseData}
 use Rattle.machine_model.specs.Conversions.{memory_width_of, memory_change_of, kind_of, asked_at}
-use Rattle.machine_model.specs.State.{Core, no_core, Machine, core_at, with_core, life_of, list_at, is_live, thread_at}
+use Rattle.machine_model.specs.State.{Core, no_core, Machine, core_at, with_core, life_of, list_at, is_live, thread_at, thread_numbers}
 use Rattle.machine_model.specs.Step.{loaded, stored, exchanged, flushed, newborn, with_birth, born_core, called, exit_by, row_at, ask_of, served, serving, carried_out, later, missed, refused, thread_of, private_of, admits, after_private, cpu_at, step_from, step}
 use Rattle.machine_model.proofs.RowLives.{row_lives}
 
@@ -79,7 +78,7 @@ find_passes p (x ∷ xs) v e =
 -- a live thread isn't the one that is born
 not_born : (m : Machine) (after : LibraryData) (u v : ℕ) → newborn m.library after ≡ Some v → is_live m u ≡ true → u ≢ v
 not_born m after u v e live same =
-    let p = find_passes (λ x. library.is_live after x && not (library.is_live m.library x)) (range_with_len 0 64) v e in
+    let p = find_passes (λ x. library.is_live after x && not (library.is_live m.library x)) thread_numbers v e in
     clash (library.is_live after v) (library.is_live m.library v) p (ap (λ x. library.is_live m.library x) (sym same) ∙ live)
   where
     clash : (a b : Bool) → (a && not b) ≡ true → b ≡ true → ⊥

@@ -11,3 +11,4 @@ pub mod Walks
 pub mod Independence
 pub mod Costs
 pub mod Gates
+pub mod PlainLemmas

@@ -6,7 +6,11 @@ use Rattle.lib_table.specs.declared.answer.Called.TheVariants.{Back, Probe, Over
 use Rattle.lib_table.specs.declared.ask.Ask.{Ask}
 use Rattle.lib_table.specs.declared.ask.Asked.{Asked}
 use Rattle.lib_table.specs.declared.ask.Asked.TheVariants.{Lib, EndDoor, CallDoor}
+use Rattle.guest_map.specs.Layout.{FaultsAt}
 use Rattle.machine_model.specs.declared.journal.Entry.{Entry}
+use Rattle.machine_model.specs.declared.journal.Entry.TheVariants.{Ev, Tick, Flush, Wait, Miss, Grow, Over as OverLimit, Full, Dead}
+use Rattle.machine_model.specs.declared.plain.machine.PlainFault.{PlainFault}
+use Rattle.machine_model.specs.declared.plain.machine.PlainFault.TheVariants.{Lay, Crowded, Memory}
 use Rattle.machine_model.specs.CaseData.{CaseData}
 use Rattle.machine_model.specs.State.{Core, Machine, list_at}
 use Rattle.machine_model.specs.Play.{play}
@@ -49,3 +53,27 @@ pub record IsCrowded (c : CaseData) (journal : List Entry) : Type 0 where
   pub thread : ℕ
   pub played : play c (take entries journal) ≡ Some machine
   pub full : 64 ≤ length (list_at machine thread)
+
+-- why there is no first machine
+abbrev pub FaultsAtStart : CaseData → PlainFault → Type 0
+FaultsAtStart c (Lay fault) = FaultsAt c.image c.args fault
+FaultsAtStart c Crowded = ⊥
+FaultsAtStart c (Memory e) = ⊤
+
+-- a thread has 64 waiting writes or more, where that is the fault
+abbrev pub IsFull : Machine → ℕ → PlainFault → Type 0
+IsFull m t (Lay fault) = ⊥
+IsFull m t Crowded = 64 ≤ length (list_at m t)
+IsFull m t (Memory e) = ⊤
+
+-- the thread that an entry names is one of 64
+abbrev pub HasNumber : Entry → Type 0
+HasNumber (Ev t k) = t < 64
+HasNumber (Tick t k) = t < 64
+HasNumber (Flush t) = t < 64
+HasNumber (Wait t k) = t < 64
+HasNumber (Miss t k source target) = t < 64
+HasNumber (Grow t a) = t < 64
+HasNumber (OverLimit t k) = t < 64
+HasNumber (Full t) = t < 64
+HasNumber Dead = ⊤

@@ -1,6 +1,8 @@
 -- The plain machine at one moment: 64 threads, x86-TSO memory, the library.
 use Rattle.std.specs.Prelude.{ℕ, Bool, List, [], replicate, slice_index_or, slice_set, Option, None}
+use Rattle.std.specs.List.{range_with_len}
 use Rattle.callbacks.specs.declared.Frame.{Frame}
+use Rattle.elf_image.specs.Layout.{ImageData}
 use Rattle.guest_map.specs.Entry.{entry_rsp}
 use Rattle.guest_map.specs.Layout.{pieces}
 use Rattle.lib_table.specs.Library as library
@@ -29,6 +31,10 @@ pub record Machine : Type 0 where
   pub library : LibraryData
   pub steps : ℕ
   pub ending : Option RunEnd
+
+-- the numbers of the threads
+unfoldable pub thread_numbers : List ℕ
+thread_numbers = range_with_len 0 64
 
 -- ---- one thread: all that is said of it is said through these words
 
@@ -63,12 +69,12 @@ with_list m t writes = record m { tso = with_buffer m.tso t writes }
 
 -- ---- before the first step
 
--- thread 0 at the entry, its stack pointer where the arguments end, all else 0
-abbrev pub first_cpu : CaseData → Cpu
-first_cpu c = record thread.start { regs = slice_set (replicate 16 0) 4 (entry_rsp c.args); rip = c.image.entry }
+-- thread 0 at the entry with its stack pointer, all else 0
+abbrev pub entering : ImageData → ℕ → Cpu
+entering image rsp = record thread.start { regs = slice_set (replicate 16 0) 4 rsp; rip = image.entry }
 
 abbrev pub first_core : CaseData → Core
-first_core c = record { cpu = first_cpu c; frames = [] }
+first_core c = record { cpu = entering c.image (entry_rsp c.args); frames = [] }
 
 -- thread 0 lives; the image and 64 stacks are in memory; the library has the input
 unfoldable pub start : CaseData → Machine

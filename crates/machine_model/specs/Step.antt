@@ -1,6 +1,6 @@
 -- One step of the plain machine: what an entry of a journal does to it.
 use Rattle.std.specs.Prelude.{ℕ, zero, suc, ◌+◌, ◌-◌, ◌%◌, ◌^◌, Bool, true, false, ◌&&◌, ◌||◌, not, ◌==◌, nat_lt, nat_le, if◌then◌else◌, List, [], ◌∷◌, ◌++◌, length, take, replicate, slice_get, slice_set, find, Option, Some, None, option_and_then, is_none}
-use Rattle.std.specs.List.{list_all, range_with_len}
+use Rattle.std.specs.List.{list_all}
 use Rattle.elf_image.specs.declared.place.Function.TheVariants as function
 use Rattle.elf_image.specs.Layout.{ImageData, function_at}
 use Rattle.callbacks.specs.declared.Frame.{Frame}
@@ -37,7 +37,7 @@ use Rattle.machine_model.specs.declared.journal.Entry.{Entry}
 use Rattle.machine_model.specs.declared.journal.Entry.TheVariants.{Ev, Tick, Flush, Wait, Miss, Grow, Over as OverLimit, Full, Dead}
 use Rattle.machine_model.specs.CaseData.{CaseData}
 use Rattle.machine_model.specs.Conversions.{memory_width_of, memory_change_of, kind_of, asked_at}
-use Rattle.machine_model.specs.State.{Core, no_core, Machine, core_at, with_core, list_at, with_list, is_live}
+use Rattle.machine_model.specs.State.{Core, no_core, Machine, core_at, with_core, list_at, with_list, is_live, thread_numbers}
 
 -- an address that is no door and no place of a library function
 abbrev pub is_code_place : ImageData → ℕ → Bool
@@ -136,7 +136,7 @@ exit_by core CallDoor = None
 
 -- the thread that lives after a request and didn't before: `pthread_create` bore it
 abbrev pub newborn : LibraryData → LibraryData → Option ℕ
-newborn before after = find (λ u. library.is_live after u && not (library.is_live before u)) (range_with_len 0 64)
+newborn before after = find (λ u. library.is_live after u && not (library.is_live before u)) thread_numbers
 
 -- a thread u is born: it calls its start function with its argument, below which it finds its return address; all else is 0
 abbrev pub born_core : ℕ → Option (ℕ × ℕ) → Core
@@ -206,7 +206,7 @@ waits_at image m t cpu = waits_for m t (record (core_at m t) { cpu = cpu }) (ask
 
 -- no thread can go on: each that lives stands at a call that waits, and no write does
 abbrev pub is_deadlocked : ImageData → Machine → Bool
-is_deadlocked image m = list_all (λ t. not (is_live m t) || waits_at image m t (cpu_at m t)) (range_with_len 0 64) && list_all is_none_waiting m.tso.buffers
+is_deadlocked image m = list_all (λ t. not (is_live m t) || waits_at image m t (cpu_at m t)) thread_numbers && list_all is_none_waiting m.tso.buffers
 
 -- ---- entries
 

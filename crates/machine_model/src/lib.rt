@@ -15,6 +15,7 @@
 #![tactic(auto)]
 
 pub mod case;
+pub mod conversions;
 pub mod ending;
 pub mod first;
 pub mod journal;

@@ -1,10 +1,10 @@
 //! What the instructions of one thread work on.
 
-ghost use Rattle.std.specs.Prelude.{◌≡◌, OnOk, IfOk};
+ghost use Rattle.std.specs.Prelude.{◌≡◌, ◌<◌, ◌≤◌, [], ◌∷◌, ◌++◌, length, OnOk, Some};
 ghost use Rattle.lib_table.specs.Steps.{HasLeft};
-ghost use Rattle.machine_model.specs.Plain.{IsAnswer};
-ghost use Rattle.machine_model.specs.State.{Core, no_core};
-ghost use Rattle.machine_model.specs.Step.{ask_of, born_core, called, probing, returned};
+ghost use Rattle.machine_model.specs.Plain.{HasElements, IsAnswer};
+ghost use Rattle.machine_model.specs.State.{Core};
+ghost use Rattle.machine_model.specs.Step.{ask_of, born_core, called, probing, returned, searches_before, without_top};
 
 use callbacks::Frame;
 use guest_map::top;
@@ -118,26 +118,68 @@ impl PlainCore {
         }
     }
 
+    // How many searches there are at most. It does nothing at run time.
+    fn facts(&self)
+        ensures { length self.now.frames ≤ 16 }
+    {
+        let _ = &self.frames;
+    }
+
+    /// The innermost search is over.
+    fn drop_search(&mut self)
+        ensures { self.new ≡ record self.old { frames = without_top self.old.frames } }
+    {
+        let _search = self.frames.pop();
+    }
+
+    /// A search begins inside those that are under way.
+    fn push_search(&mut self, frame: Frame) -> Result<(), AllocError>
+        requires left { HasElements frame }
+        requires room { length self.old.frames < 16 }
+        ensures { OnOk result (self.new ≡ record self.old { frames = self.old.frames ++ frame ∷ [] }) }
+    {
+        self.frames.push(frame)?;
+        Ok(())
+    }
+
+    /// The search of a probe: a return of the comparator goes on with the innermost one, a call of `bsearch` begins one.
+    fn search(&mut self, what: Asked, frame: Frame) -> Result<(), AllocError>
+        requires left { HasElements frame }
+        requires room { length (searches_before what self.old.frames) < 16 }
+        ensures { OnOk result (self.new ≡ record self.old { frames = searches_before what self.old.frames ++ frame ∷ [] }) }
+    {
+        match what {
+            Asked::CallDoor => {
+                self.drop_search();
+                self.push_search(frame)
+            }
+            Asked::EndDoor | Asked::Lib(_) => self.push_search(frame),
+        }
+    }
+
     /// The thread with these registers goes on after its request was carried out.
     pub(crate) fn go_on(&mut self, cpu: Cpu, what: Asked, answer: Called) -> Result<(), AllocError>
         requires { IsAnswer what (ask_of (record self.old { cpu = cpu }) what) answer }
         ensures { OnOk result (self.new ≡ called (record self.old { cpu = cpu }) what answer) }
     {
         match answer {
-            Called::Back { rax, rsp, rip, popped } => {
-                self.cpu = returned_to(cpu, rax, rsp, rip);
+            Called::Back {
+                rax,
+                rsp,
+                rip,
+                popped,
+            } => {
+                self.set_cpu(returned_to(cpu, rax, rsp, rip));
                 if popped {
-                    let _search = self.frames.pop();
+                    self.drop_search();
                 }
             }
             Called::Probe { frame, place } => {
-                self.cpu = probing_at(cpu, frame, place);
-                if let Asked::CallDoor = what {
-                    let _before = self.frames.pop();
-                }
-                self.frames.push(frame)?;
+                self.facts();
+                self.set_cpu(probing_at(cpu, frame, place));
+                self.search(what, frame)?;
             }
-            Called::Over => self.cpu = cpu,
+            Called::Over => self.set_cpu(cpu),
         }
         Ok(())
     }
