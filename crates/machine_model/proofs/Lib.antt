@@ -12,3 +12,4 @@ pub mod Independence
 pub mod Costs
 pub mod Gates
 pub mod PlainLemmas
+pub mod PlainPlay

@@ -1,5 +1,5 @@
 -- What the plain program rests on, beside the definitions.
-use Rattle.std.proofs.Common.{◌≡◌, ℕ, zero, suc, ◌+◌, ◌-◌, ◌<◌, ◌≤◌, Bool, true, false, cond, not, List, [], ◌∷◌, ◌++◌, Option, Some, None, refl, sym, ap, ◌∙◌, subst, arith, length, map, take, get_or, length-take, add-one, ◌&&◌}
+use Rattle.std.proofs.Common.{◌≡◌, ℕ, zero, suc, ◌+◌, ◌-◌, ◌<◌, ◌≤◌, Bool, true, false, cond, not, List, [], ◌∷◌, ◌++◌, Option, Some, None, refl, sym, ap, ◌∙◌, subst, arith, length, map, take, get_or, length-take, add-one, ◌&&◌, ◌||◌}
 use Rattle.std.specs.Prelude.{IsSome, is_none, nat_le, slice_get, slice_index_or, find, option_and_then}
 use Rattle.std.proofs.lemmas.Bool.Decides.{nat_tests}
 use Rattle.tso_memory.specs.declared.write.PendingWrite.{PendingWrite}
@@ -16,7 +16,6 @@ use Rattle.lib_table.specs.declared.answer.Called.{Called}
 use Rattle.lib_table.specs.declared.answer.Called.TheVariants.{Probe}
 use Rattle.elf_image.specs.Layout.{ImageData}
 use Rattle.x86_model.specs.declared.cpu.Cpu.{Cpu}
-use Rattle.x86_model.specs.declared.want.Want.TheVariants as wants
 use Rattle.x86_model.specs.Want.{want}
 use Rattle.machine_model.specs.Plain.{HasRoom, IsAnswer}
 use Rattle.lib_table.specs.Library as table
@@ -120,9 +119,9 @@ room_answered core next cpu what answer frame place fits is same few =
 
 -- ---- private steps
 
-pub one_private : (image : ImageData) (n : ℕ) (cpu at next : Cpu) → after_private image n cpu ≡ Some at → want image at ≡ wants.Private next → after_private image (n + 1) cpu ≡ Some next
+pub one_private : (image : ImageData) (n : ℕ) (cpu at next : Cpu) → after_private image n cpu ≡ Some at → privately (want image at) ≡ Some next → after_private image (n + 1) cpu ≡ Some next
 unfolding after_private
-one_private image n cpu at next e w = rw (add-one n) (ap (option_and_then (λ x. privately (want image x))) e ∙ ap privately w)
+one_private image n cpu at next e w = rw (add-one n) (ap (option_and_then (λ x. privately (want image x))) e ∙ w)
 
 not_private : (image : ImageData) (n : ℕ) (cpu at : Cpu) → after_private image n cpu ≡ Some at → privately (want image at) ≡ None → after_private image (suc n) cpu ≡ None
 unfolding after_private
@@ -143,7 +142,7 @@ never_private image n k cpu at e w lt = let z : k ≡ (k - suc n) + suc n = omeg
 
 pub all_lists : (bs : List (List PendingWrite)) (n : ℕ) → length bs ≡ n → ((u : ℕ) → u < n → is_none_waiting (slice_index_or bs u []) ≡ true) → list_all is_none_waiting bs ≡ true
 all_lists [] n e h = refl
-all_lists (b ∷ bs) n e h = rw (h 0 (omega arith), all_lists bs (length bs) refl (λ u lt. h (u + 1) (omega arith))) refl
+all_lists (b ∷ bs) n e h = rw (h 0 (omega arith), all_lists bs (length bs) refl (λ u lt. h (suc u) (omega arith))) refl
 
 pub one_list : (bs : List (List PendingWrite)) (u : ℕ) → u < length bs → is_none_waiting (slice_index_or bs u []) ≡ false → list_all is_none_waiting bs ≡ false
 one_list [] u lt h = absurd (omega arith)
@@ -180,3 +179,24 @@ none_anyway false o h = refl
 pub not_so_private : (c : CaseData) (m : Machine) (e : Entry) → after_private c.image (private_of e) (cpu_at m (thread_of e)) ≡ None → step c m e ≡ None
 unfolding step
 not_so_private c m e h = none_anyway (admits m e) _ (ap (option_and_then (step_from c m e)) h)
+
+pub busy : (a b : Bool) → a ≡ true → b ≡ false → (not a || b) ≡ false
+busy true false p q = refl
+busy true true p q = absurd (let e : true ≡ false = q in cc)
+busy false b p q = absurd (let e : false ≡ true = p in cc)
+
+pub not_named : (c : CaseData) (m : Machine) (e : Entry) → names_live m e ≡ false → step c m e ≡ None
+not_named c m e h = not_admitted c m e (named_not (is_none m.ending) (names_live m e) (nat_le (private_of e) 4096) h)
+  where
+    named_not : (a b d : Bool) → b ≡ false → (a && b && d) ≡ false
+    named_not true true d h = absurd (let e : true ≡ false = h in cc)
+    named_not true false d h = refl
+    named_not false b d h = refl
+
+pub too_private : (c : CaseData) (m : Machine) (e : Entry) → 4096 < private_of e → step c m e ≡ None
+too_private c m e h = not_admitted c m e (few_not (is_none m.ending) (names_live m e) (nat_le (private_of e) 4096) (grind (arith, nat_tests)))
+  where
+    few_not : (a b d : Bool) → d ≡ false → (a && b && d) ≡ false
+    few_not true true d h = h
+    few_not true false d h = refl
+    few_not false b d h = refl

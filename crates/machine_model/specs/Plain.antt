@@ -77,3 +77,9 @@ HasNumber (Grow t a) = t < 64
 HasNumber (OverLimit t k) = t < 64
 HasNumber (Full t) = t < 64
 HasNumber Dead = ⊤
+
+-- why a journal isn't played to its end
+abbrev pub FaultsIn : CaseData → List Entry → PlainFault → Type 0
+FaultsIn c journal (Lay fault) = FaultsAt c.image c.args fault
+FaultsIn c journal Crowded = IsCrowded c journal
+FaultsIn c journal (Memory e) = ⊤

@@ -8,7 +8,7 @@ ghost use Rattle.x86_model.specs.declared.cpu.Cpu.{Cpu as CpuData};
 ghost use Rattle.machine_model.specs.declared.journal.Entry.TheVariants as entry;
 ghost use Rattle.machine_model.specs.Plain.{HasNumber, IsFull, stepped_to};
 ghost use Rattle.machine_model.specs.State.{is_live, thread_numbers};
-ghost use Rattle.machine_model.specs.Step.{after_private, carried_out, cpu_at, is_code_place, names_live, private_of, step, step_from, thread_of, waits_at};
+ghost use Rattle.machine_model.specs.Step.{after_private, carried_out, cpu_at, is_code_place, names_live, private_of, privately, step, step_from, thread_of, waits_at};
 
 use crate::case::Case;
 use crate::conversions::{asked, bad_kind, memory_change, memory_width};
@@ -21,6 +21,16 @@ use miss_report::Miss;
 use std::alloc::Global;
 use x86_model::{Cpu, Want, next_want};
 
+// The registers after a private step.
+fn privately(want: Want) -> Option<Cpu>
+    ensures { result ≡ privately want }
+{
+    match want {
+        Want::Private(next) => Some(next),
+        _ => None,
+    }
+}
+
 // The registers after `k` private steps, or none where one of them wouldn't be private.
 #[tactic(auto, using(crate::proofs::PlainLemmas::one_private, crate::proofs::PlainLemmas::never_private), unfolding(crate::specs::Step::after_private))]
 fn after_private(image: &Image, k: u32, cpu: Cpu) -> Option<Cpu>
@@ -28,10 +38,10 @@ fn after_private(image: &Image, k: u32, cpu: Cpu) -> Option<Cpu>
 {
     let mut at = cpu;
     for _ in 0..k {
-        match next_want(image, at) {
-            Want::Private(next) => at = next,
-            _ => return None,
-        }
+        let Some(next) = privately(next_want(image, at)) else {
+            return None;
+        };
+        at = next;
     }
     Some(at)
 }
@@ -312,13 +322,19 @@ impl PlainMachine {
 
     /// Makes the step that an entry is; answers whether it is one. `Crowded` comes only where 64 writes or more of its
     /// thread wait, and after a fault the machine may be anywhere on the way.
-    #[tactic(auto, using(crate::proofs::PlainLemmas::is_step, crate::proofs::PlainLemmas::not_admitted, crate::proofs::PlainLemmas::not_so_private))]
+    #[tactic(auto, using(crate::proofs::PlainLemmas::is_step, crate::proofs::PlainLemmas::not_named, crate::proofs::PlainLemmas::too_private, crate::proofs::PlainLemmas::not_so_private, crate::proofs::Walks::ended_no_step))]
     pub fn step(&mut self, alloc: Global, case: &Case, entry: Entry) -> Result<bool, PlainFault>
         requires { case.now.limit < 2 ^ 63 }
         ensures step { IfOk result (λ done. stepped_to done self.new ≡ step case.now self.old entry) }
         ensures fault { IfErr result (IsFull self.old (thread_of entry)) }
     {
-        if self.ending.is_some() || !self.names_live(entry) || entry.private_steps() > 4096 {
+        if self.ending.is_some() {
+            return Ok(false);
+        }
+        if !self.names_live(entry) {
+            return Ok(false);
+        }
+        if entry.private_steps() > 4096 {
             return Ok(false);
         }
         let before = self.cpu(entry.thread());
