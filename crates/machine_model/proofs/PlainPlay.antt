@@ -27,23 +27,23 @@ split_at [] i d lt = absurd (omega arith)
 split_at (x ∷ xs) zero d lt = refl
 split_at (x ∷ xs) (suc i) d lt = ap (λ y. x ∷ y) (split_at xs i d (omega arith))
 
-pub play_next : (c : CaseData) (journal : List Entry) (i : ℕ) (m n : Machine) (e : Entry) → play c (take i journal) ≡ Some m → i < length journal → e ≡ get_or journal i e → step c m e ≡ Some n → play c (take (i + 1) journal) ≡ Some n
-play_next c journal i m n e p lt at s =
+pub play_next : (c : CaseData) (journal : List Entry) (i : ℕ) (m n : Machine) (d : Entry) → play c (take i journal) ≡ Some m → i < length journal → step c m (get_or journal i d) ≡ Some n → play c (take (i + 1) journal) ≡ Some n
+play_next c journal i m n d p lt s =
     ap (λ x. play c (take x journal)) (add-one i)
-    ∙ ap (play c) (next_taken journal i e lt ∙ ap (λ x. take i journal ++ x ∷ []) (sym at))
-    ∙ play_more c (take i journal) e
-    ∙ ap (option_and_then (λ x. step c x e)) p
+    ∙ ap (play c) (next_taken journal i d lt)
+    ∙ play_more c (take i journal) (get_or journal i d)
+    ∙ ap (option_and_then (λ x. step c x (get_or journal i d))) p
     ∙ s
 
 stuck_walk : {S E : Type 0} (f : S → E → Option S) (s m : S) (xs ys : List E) (e : E) → walk f s xs ≡ Some m → f m e ≡ None → walk f s (xs ++ e ∷ ys) ≡ None
 unfolding walk
 stuck_walk f s m xs ys e p q = walk_append f s xs (e ∷ ys) ∙ ap (option_and_then (λ n. walk f n (e ∷ ys))) p ∙ ap (option_and_then (λ n. walk f n ys)) q
 
-pub play_stuck : (c : CaseData) (journal : List Entry) (i : ℕ) (m : Machine) (e : Entry) → play c (take i journal) ≡ Some m → i < length journal → e ≡ get_or journal i e → step c m e ≡ None → play c journal ≡ None
+pub play_stuck : (c : CaseData) (journal : List Entry) (i : ℕ) (m : Machine) (d : Entry) → play c (take i journal) ≡ Some m → i < length journal → step c m (get_or journal i d) ≡ None → play c journal ≡ None
 unfolding play
-play_stuck c journal i m e p lt at s =
-    ap (play c) (split_at journal i e lt ∙ ap (λ x. take i journal ++ x ∷ drop (suc i) journal) (sym at))
-    ∙ stuck_walk (step c) (start c) m (take i journal) (drop (suc i) journal) e p s
+play_stuck c journal i m d p lt s =
+    ap (play c) (split_at journal i d lt)
+    ∙ stuck_walk (step c) (start c) m (take i journal) (drop (suc i) journal) (get_or journal i d) p s
 
 pub play_all : (c : CaseData) (journal : List Entry) (i : ℕ) (m : Machine) → play c (take i journal) ≡ Some m → length journal ≤ i → play c journal ≡ Some m
 play_all c journal i m p le = ap (play c) (sym (all_taken i journal le)) ∙ p

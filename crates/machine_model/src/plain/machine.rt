@@ -22,6 +22,8 @@ use std::marker::Model;
 use tso_memory::{Change, Denied, Tso, Width};
 use x86_model::Cpu;
 
+const THREADS: usize = 64;
+
 /// Why a journal wasn't played to its end.
 #[derive(Clone, Copy, Debug)]
 pub enum PlainFault {
@@ -85,7 +87,7 @@ pub(crate) fn lives(alloc: Global, library: &Library) -> Result<Vec<bool>, Alloc
     ensures lives { IfOk result (λ lives. lives.items ≡ map (table.is_live library.now) thread_numbers) }
     ensures count { IfOk result (λ lives. length lives.items ≡ 64) }
 {
-    let mut lives = Vec::with_capacity(alloc, 64)?;
+    let mut lives = Vec::with_capacity(alloc, THREADS)?;
     for t in 0..64 {
         lives.push(library.is_live(t))?;
     }
@@ -110,9 +112,9 @@ pub(crate) fn newborn(before: &[bool], library: &Library) -> Option<u32>
 fn first_cores(alloc: Global, image: &Image, rsp: u64) -> Result<Vec<PlainCore>, AllocError>
     ensures { IfOk result (λ cores. cores.items ≡ slice_set (replicate 64 no_core) 0 (record { cpu = entering image.now rsp; frames = [] })) }
 {
-    let mut cores = Vec::with_capacity(alloc, 64)?;
+    let mut cores = Vec::with_capacity(alloc, THREADS)?;
     cores.push(PlainCore::make(alloc, entering(image, rsp)))?;
-    for _ in 0..63 {
+    for _ in 0..THREADS - 1 {
         cores.push(PlainCore::make(alloc, Cpu::make()))?;
     }
     Ok(cores)
