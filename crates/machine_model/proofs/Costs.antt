@@ -170,7 +170,7 @@ unfolding step
 due_step c m n e p =
     let q = if_some (admits m e) _ n p in
     option_and_then_some (step_from c m e) (after_private c.image (private_of e) (cpu_at m (thread_of e))) n q.1
-      (λ cpu _ r. due_from c m n e cpu (goes_on m.ending (names_live m e) (nat_le (private_of e) 4096) q.0) r)
+    (λ cpu _ r. due_from c m n e cpu (goes_on m.ending (names_live m e) (nat_le (private_of e) 4096) q.0) r)
 
 -- ---- the gate
 
@@ -189,8 +189,8 @@ room_pass : (image : ImageData) (e : Entry) (before after : Cpu) (g n : Gate) �
 unfolding pass
 room_pass image e before after g n p =
     option_and_then_some (λ spot. Some (gate_with e g spot)) (spot_after image g.grown e before after (spot_at g (thread_of e))) n p (λ spot q r.
-      option_and_then_some (spot_last image g.grown e after (spot_at g (thread_of e))) (gated_steps image g.grown (private_of e) (record { cpu = before; left = (spot_at g (thread_of e)).left })) spot q (λ s _ w.
-        subst (λ x. room x + 1 ≤ room g + paid e) (same_Some _ n r) (room_with e g spot image after (spot_at g (thread_of e)) s w)))
+    option_and_then_some (spot_last image g.grown e after (spot_at g (thread_of e))) (gated_steps image g.grown (private_of e) (record { cpu = before; left = (spot_at g (thread_of e)).left })) spot q (λ s _ w.
+    subst (λ x. room x + 1 ≤ room g + paid e) (same_Some _ n r) (room_with e g spot image after (spot_at g (thread_of e)) s w)))
 
 -- ---- whole journals
 
@@ -203,8 +203,8 @@ pub came : (c : CaseData) (b n : Both) (e : Entry) → advance c b e ≡ Some n 
 unfolding advance
 came c b n e p =
     option_and_then_some (with_machine c b e) (step c b.machine e) n p (λ m s q.
-      option_and_then_some (λ g. Some (with_gate m g)) (pass c.image e (cpu_at b.machine (thread_of e)) (cpu_at m (thread_of e)) b.gate) n q (λ g r w.
-        subst (λ x. Came c b x e) (same_Some _ n w) (record { stepped = s; passed = r })))
+    option_and_then_some (λ g. Some (with_gate m g)) (pass c.image e (cpu_at b.machine (thread_of e)) (cpu_at m (thread_of e)) b.gate) n q (λ g r w.
+    subst (λ x. Came c b x e) (same_Some _ n w) (record { stepped = s; passed = r })))
 
 pub costs : (c : CaseData) (b n : Both) (e : Entry) → advance c b e ≡ Some n → left_of c n + 1 ≤ left_of c b
 costs c b n e p =

@@ -93,7 +93,7 @@ pub passes : (image : ImageData) (e : Entry) (before after : Cpu) (g n : Gate) �
 unfolding pass
 passes image e before after g n p =
     option_and_then_some (λ spot. Some (gate_with e g spot)) (spot_after image g.grown e before after (spot_at g (thread_of e))) n p
-      (λ spot _ q. subst (λ x. Passes g x e) (same_Some _ n q) (record { spot = λ u ne. get_or-set_other g.spots (thread_of e) u spot no_spot ne; grown = refl }))
+    (λ spot _ q. subst (λ x. Passes g x e) (same_Some _ n q) (record { spot = λ u ne. get_or-set_other g.spots (thread_of e) u spot no_spot ne; grown = refl }))
 
 pub grown_after : (c : CaseData) (b n : Both) (e : Entry) → advance c b e ≡ Some n → n.gate.grown ≡ grown_by e b.gate.grown
 grown_after c b n e p = (passes c.image e _ _ b.gate n.gate (came c b n e p).passed).grown
@@ -126,8 +126,8 @@ pass_grow : (image : ImageData) (t a : ℕ) (before after : Cpu) (g n : Gate) �
 unfolding pass
 pass_grow image t a before after g n p =
     option_and_then_some (λ spot. Some (gate_with (Grow t a) g spot)) (spot_after image g.grown (Grow t a) before after (spot_at g t)) n p (λ spot q _.
-      option_and_then_some (spot_last image g.grown (Grow t a) after (spot_at g t)) (gated_steps image g.grown 0 (record { cpu = before; left = (spot_at g t).left })) spot q (λ s _ w.
-        is_not _ (both_of _ _ (cond_some _ _ spot w).0).0))
+    option_and_then_some (spot_last image g.grown (Grow t a) after (spot_at g t)) (gated_steps image g.grown 0 (record { cpu = before; left = (spot_at g t).left })) spot q (λ s _ w.
+    is_not _ (both_of _ _ (cond_some _ _ spot w).0).0))
 
 -- where a place may be grown, it isn't yet
 pub not_grown_yet : (c : CaseData) (b n : Both) (t a : ℕ) → advance c b (Grow t a) ≡ Some n → is_among b.gate.grown a ≡ false
@@ -145,9 +145,10 @@ pub grown_once : (c : CaseData) (before after : List Entry) (t a : ℕ) → IsGa
 unfolding Leads begin
 grown_once c before after t a g =
     let h = halfway c (begin c) g.0 before (Grow t a ∷ after) g.1 in
-    let not_yet : is_among h.middle.gate.grown a ≡ false = not_grown_yet c h.middle h.after.0 t a h.after.1 in
-    (not_at_first (is_among c.first a) (λ e. clash not_yet (grows c (begin c) h.middle before h.before a e)),
-     λ u inside. clash not_yet (grown_then c (begin c) h.middle before a u inside.0 h.before inside.1 inside.2))
+    let not_yet : is_among h.middle.gate.grown a ≡ false = not_grown_yet c h.middle h.after.0 t a h.after.1 in (
+      not_at_first (is_among c.first a) (λ e. clash not_yet (grows c (begin c) h.middle before h.before a e)),
+      λ u inside. clash not_yet (grown_then c (begin c) h.middle before a u inside.0 h.before inside.1 inside.2),
+    )
 
 -- ---- entries of other threads
 
@@ -164,7 +165,7 @@ untouched_by c b n e t p ne live =
       thread = threads_stay c b.machine n.machine e h.stepped t ne live;
       writes = lists_stay c b.machine n.machine e h.stepped t ne;
       spot = (passes c.image e _ _ b.gate n.gate h.passed).spot t ne;
-      grown = λ a g. subst (λ x. is_among x a ≡ true) (sym (grown_after c b n e p)) (within_grown e b.gate.grown a g)
+      grown = λ a g. subst (λ x. is_among x a ≡ true) (sym (grown_after c b n e p)) (within_grown e b.gate.grown a g);
     }
 
 live_on : (c : CaseData) (b n : Both) (e : Entry) (t : ℕ) → advance c b e ≡ Some n → t ≢ thread_of e → is_live b.machine t ≡ true → is_live n.machine t ≡ true
@@ -204,14 +205,14 @@ enters image old new w rip left l e = by_place (is_code_place image rip) image o
 step_grows : (image : ImageData) (old new : List ℕ) → Within old new → (s d : Stand) → gated_step image old s ≡ Some d → gated_step image new s ≡ Some d
 step_grows image old new w s d e =
     option_and_then_some (moved_on (privately (want image s.cpu))) (entered image old s.cpu.rip s.left) d e (λ left p q.
-      ap (option_and_then (moved_on (privately (want image s.cpu)))) (enters image old new w s.cpu.rip s.left left p) ∙ q)
+    ap (option_and_then (moved_on (privately (want image s.cpu)))) (enters image old new w s.cpu.rip s.left left p) ∙ q)
 
 pub steps_grow : (image : ImageData) (old new : List ℕ) → Within old new → (k : ℕ) (s d : Stand) → gated_steps image old k s ≡ Some d → gated_steps image new k s ≡ Some d
 unfolding gated_steps
 steps_grow image old new w zero s d e = e
 steps_grow image old new w (suc k) s d e =
     option_and_then_some (gated_step image old) (gated_steps image old k s) d e (λ x p q.
-      ap (option_and_then (gated_step image new)) (steps_grow image old new w k s x p) ∙ step_grows image old new w x d q)
+    ap (option_and_then (gated_step image new)) (steps_grow image old new w k s x p) ∙ step_grows image old new w x d q)
 
 abbrev stand_by : Thread → Spot → Stand
 stand_by thread spot = record { cpu = thread.cpu; left = spot.left }

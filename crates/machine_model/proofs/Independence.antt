@@ -96,7 +96,8 @@ leaves_served m n t core what (Done after memory answer) e p =
     subst (λ x. Leaves m x t) (same_Some _ n p) (leaves_birth m _ t after (newborn m.library after) refl (record {
       cores = λ u ne _. get_or-set_other m.cores t u _ no_core ne;
       lives = λ u ne live. row_lives m.library after m.tso.memory memory t (ask_of core what) answer e u ne live;
-      lists = λ u ne. refl }))
+      lists = λ u ne. refl;
+    }))
 leaves_served m n t core what Waits e p = absurd (none-some n p)
 leaves_served m n t core what (Bad kind) e p = subst (λ x. Leaves m x t) (same_Some _ n p) (leaves_core m t _ m.steps _)
 
@@ -137,7 +138,7 @@ pub leaves : (c : CaseData) (m n : Machine) (e : Entry) → step c m e ≡ Some 
 unfolding step
 leaves c m n e p =
     option_and_then_some (step_from c m e) (after_private c.image (private_of e) (cpu_at m (thread_of e))) n ((if_some (admits m e) _ n p).1)
-      (λ cpu q r. leaves_from c m n e cpu r)
+    (λ cpu q r. leaves_from c m n e cpu r)
 
 abbrev thread_by : Core → Life → Thread
 thread_by core life = record { cpu = core.cpu; frames = core.frames; life = life_of life }

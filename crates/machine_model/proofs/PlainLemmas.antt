@@ -76,6 +76,7 @@ find_first p a (suc n) u le lt h none =
   where
     first : (a u : ℕ) → a ≤ u → p a ≡ true → ((v : ℕ) → a ≤ v → v < u → p v ≡ false) → a ≡ u
     first a u le e none = grind (arith, none a)
+
     later : (a u : ℕ) → a ≤ u → p a ≡ false → p u ≡ true → a + 1 ≤ u
     later a u le e h = grind arith
 
@@ -101,14 +102,14 @@ pub is_newborn : (before : List Bool) (l now : LibraryData) (t : ℕ) → before
 unfolding thread_numbers
 is_newborn before l now t e lt h none =
     find_first (λ u. table.is_live now u && not (table.is_live l u)) 0 64 t (omega arith) (omega arith)
-      (sym (anew (table.is_live now t) _ _ (lived (table.is_live l) before t e lt)) ∙ h)
-      (λ v _ r. sym (anew (table.is_live now v) _ _ (lived (table.is_live l) before v e (omega arith))) ∙ none v r)
+    (sym (anew (table.is_live now t) _ _ (lived (table.is_live l) before t e lt)) ∙ h)
+    (λ v _ r. sym (anew (table.is_live now v) _ _ (lived (table.is_live l) before v e (omega arith))) ∙ none v r)
 
 pub no_newborn : (before : List Bool) (l now : LibraryData) → before ≡ map (table.is_live l) thread_numbers → ((u : ℕ) → u < 64 → (table.is_live now u && not (get_or before u false)) ≡ false) → newborn l now ≡ None
 unfolding thread_numbers
 no_newborn before l now e none =
     find_none (λ u. table.is_live now u && not (table.is_live l u)) 0 64
-      (λ v _ r. sym (anew (table.is_live now v) _ _ (lived (table.is_live l) before v e (omega arith))) ∙ none v (omega arith))
+    (λ v _ r. sym (anew (table.is_live now v) _ _ (lived (table.is_live l) before v e (omega arith))) ∙ none v (omega arith))
 
 -- ---- a probe's search
 

@@ -80,7 +80,7 @@ module _ (l : LibraryData) (t u : ℕ) (what : Asked) (ask : Ask) where
   born_kept m back None e = same _ _ _ refl tt
   born_kept m back (Some v) e =
       denied_kept (unwritable m (a1 ask) 8) _ (denied_kept (unwritable m (stack_top v - 8) 8) _
-        (set_other v _ _ _ (unborn_dead (life_at l v) ((position-Some is_unborn l.lives v Unborn e).1)) tt))
+      (set_other v _ _ _ (unborn_dead (life_at l v) ((position-Some is_unborn l.lives v Unborn e).1)) tt))
 
   create_kept : (m : Memory) (back : ℕ) → Kept l t u what ask (create l m ask back)
   unfolding create

@@ -21,3 +21,5 @@ pub mod first;
 pub mod journal;
 pub mod laws;
 pub mod plain;
+#[cfg(test)]
+mod tests;

@@ -1,7 +1,6 @@
 //! A plain, slow program that plays journals: its contract is the definition. Tests alone call it, to compare the
 //! definition with worked runs; no running code does.
 
-
 ghost use Rattle.std.specs.Prelude.{◌≡◌, ◌<◌, ◌^◌, IfErr, IfOk};
 ghost use Rattle.machine_model.specs.Plain.{FaultsIn};
 ghost use Rattle.machine_model.specs.Play.{play};
@@ -11,11 +10,10 @@ mod entries;
 mod machine;
 mod requests;
 
-pub use core::PlainCore;
-pub use machine::{PlainFault, PlainMachine};
-
 use crate::case::Case;
 use crate::journal::Entry;
+pub use core::PlainCore;
+pub use machine::{PlainFault, PlainMachine};
 use std::alloc::Global;
 
 /// Plays a journal from the start: the machine after it, or none where one of its entries is no step.

@@ -110,7 +110,13 @@ impl PlainCore {
     {
         Ask {
             what,
-            args: [cpu.regs[7], cpu.regs[6], cpu.regs[2], cpu.regs[1], cpu.regs[8]],
+            args: [
+                cpu.regs[7],
+                cpu.regs[6],
+                cpu.regs[2],
+                cpu.regs[1],
+                cpu.regs[8],
+            ],
             rsp: cpu.regs[4],
             rax: cpu.regs[0],
             depth: self.frames.len() as u32,

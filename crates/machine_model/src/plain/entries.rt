@@ -69,13 +69,7 @@ impl PlainMachine {
     }
 
     // Carries out a step that isn't private; answers whether it is a step.
-    fn carry_out(
-        &mut self,
-        alloc: Global,
-        t: u32,
-        cpu: Cpu,
-        want: Want,
-    ) -> Result<bool, PlainFault>
+    fn carry_out(&mut self, alloc: Global, t: u32, cpu: Cpu, want: Want) -> Result<bool, PlainFault>
         requires number { t < 64 }
         requires live { is_live self.old t ≡ true }
         requires going { self.old.ending ≡ None }
@@ -88,12 +82,7 @@ impl PlainMachine {
                 self.load(t, cpu, at, memory_width(w));
                 Ok(true)
             }
-            Want::Store {
-                at,
-                w,
-                value,
-                next,
-            } => {
+            Want::Store { at, w, value, next } => {
                 if !self.store(t, cpu, at, memory_width(w), value, next) {
                     return Err(PlainFault::Crowded);
                 }

@@ -195,7 +195,11 @@ impl PlainMachine {
     pub fn cpu(&self, t: u32) -> Cpu
         ensures { result ≡ cpu_at self.now t }
     {
-        if t < 64 { self.cores[t as usize].cpu() } else { Cpu::make() }
+        if t < 64 {
+            self.cores[t as usize].cpu()
+        } else {
+            Cpu::make()
+        }
     }
 
     /// Whether no write of thread `t` waits.
@@ -264,10 +268,13 @@ impl PlainMachine {
         ensures { self.new ≡ loaded self.old t cpu a (size_of width) (refused self.old access.Load a (size_of width)) }
     {
         match self.memory.load(t, a, width) {
-            Ok(v) => self.set_cpu(t, Cpu {
-                mid: Some(v),
-                ..cpu
-            }),
+            Ok(v) => self.set_cpu(
+                t,
+                Cpu {
+                    mid: Some(v),
+                    ..cpu
+                },
+            ),
             Err(Denied(x)) => self.fault(t, cpu, BadKind::Access(x)),
         }
     }
@@ -301,10 +308,13 @@ impl PlainMachine {
         ensures { self.new ≡ exchanged self.old t cpu a (size_of width) change (refused self.old access.Locked a (size_of width)) }
     {
         match self.memory.exchange_locked(t, a, width, change) {
-            Ok(v) => self.set_cpu(t, Cpu {
-                mid: Some(v),
-                ..cpu
-            }),
+            Ok(v) => self.set_cpu(
+                t,
+                Cpu {
+                    mid: Some(v),
+                    ..cpu
+                },
+            ),
             Err(Denied(x)) => self.fault(t, cpu, BadKind::Access(x)),
         }
     }
