@@ -13,7 +13,7 @@ use Rattle.lib_table.specs.declared.ask.Asked.{Asked}
 use Rattle.lib_table.specs.declared.ask.Asked.TheVariants.{Lib, EndDoor, CallDoor}
 use Rattle.lib_table.specs.Library.{LibraryData, is_held}
 use Rattle.lib_table.specs.Outcome.{RowResult, Waits, a1, unless_denied, unreadable, word_at}
-use Rattle.lib_table.specs.Threads.{born, create, end_door, ended, self_id}
+use Rattle.lib_table.specs.Threads.{born_if, create, end_door, ended, self_id}
 use Rattle.lib_table.specs.Mutexes.{init, lock, taken, trylock, unlock, destroy}
 use Rattle.lib_table.specs.Searches.{call_door, compared, comparison, search_for, searching}
 use Rattle.lib_table.specs.Streams.{read, write}
@@ -27,9 +27,9 @@ stays-unless : (o : Option ℕ) (r : RowResult) → is_waiting r ≡ false → i
 stays-unless None r p = p
 stays-unless (Some x) r p = refl
 
-born-stays : (l : LibraryData) (m : Memory) (ask : Ask) (back : ℕ) (n : Option ℕ) → is_waiting (born l m ask back n) ≡ false
+born-stays : (l : LibraryData) (m : Memory) (ask : Ask) (back : ℕ) (n : Option (ℕ × LibraryData)) → is_waiting (born_if l m ask back n) ≡ false
 born-stays l m ask back None = refl
-born-stays l m ask back (Some t) = search (stays-unless, rules)
+born-stays l m ask back (Some n) = search (stays-unless, rules)
 
 searching-stays : (l : LibraryData) (m : Memory) (f : Frame) (n : Next) → is_waiting (searching l m f n) ≡ false
 searching-stays l m f (next.Probe place) = search (stays-unless, rules)

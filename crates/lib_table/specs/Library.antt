@@ -1,5 +1,5 @@
 -- The library's data in the guest's terms: which threads live, who holds which mutex, the input and the outputs.
-use Rattle.std.specs.Prelude.{ℕ, ◌+◌, ◌-◌, ◌*◌, ◌==◌, Bool, true, false, if◌then◌else◌, List, [], ◌∷◌, ◌++◌, drop, replicate, position, slice_index_or, slice_set, Option, Some, None, is_some}
+use Rattle.std.specs.Prelude.{ℕ, ◌+◌, ◌-◌, ◌*◌, ◌==◌, Bool, true, false, if◌then◌else◌, List, [], ◌∷◌, ◌++◌, drop, replicate, position, slice_index_or, slice_set, Option, Some, None, is_some, option_map}
 use Rattle.std.specs.Ordering.{nat_cmp}
 use Rattle.std.specs.FinMap.{FinMap, empty, get, insert, remove}
 use Rattle.lib_table.specs.declared.life.Life.{Life}
@@ -41,9 +41,13 @@ is_running Joined = false
 abbrev pub is_live : LibraryData → ℕ → Bool
 is_live l t = is_running (life_at l t)
 
--- the number that the next thread gets
+-- the number that the next thread gets: the least that no thread had
 abbrev pub next_number : LibraryData → Option ℕ
 next_number l = position is_unborn l.lives
+
+-- a new thread: its number, and the library in which it lives; none where every number was given
+abbrev pub new_thread : LibraryData → ℕ → ℕ → Option (ℕ × LibraryData)
+new_thread l start argument = option_map (λ t. (t, with_life l t (Live start argument))) (next_number l)
 
 abbrev pub born_for : Life → Option (ℕ × ℕ)
 born_for Unborn = None

@@ -1,5 +1,5 @@
 -- Mutexes of the normal kind: POSIX pthread_mutex_init, lock, trylock, unlock and destroy. A mutex is its address; the bytes there are neither read nor written, so one that was never initialised is free. This rule, and the limit on held ones, are this project's own.
-use Rattle.std.specs.Prelude.{ℕ, ◌==◌, nat_le, if◌then◌else◌}
+use Rattle.std.specs.Prelude.{ℕ, ◌==◌, not, nat_le, if◌then◌else◌}
 use Rattle.std.specs.FinMap.{len}
 use Rattle.tso_memory.specs.Memory.{Memory}
 use Rattle.lib_table.specs.declared.ask.Ask.{Ask}
@@ -10,9 +10,9 @@ use Rattle.lib_table.specs.Outcome.{RowResult, Done, Waits, a1, a2, returned, an
 -- pthread_mutex_init(a1, a2): attributes other than null aren't valid
 unfoldable pub init : LibraryData → Memory → Ask → ℕ → RowResult
 init l m ask back =
-    if a2 ask == 0
-    then (if is_held l (a1 ask) then answer l m ask back EBUSY else answer l m ask back 0)
-    else answer l m ask back EINVAL
+    if not (a2 ask == 0) then answer l m ask back EINVAL
+    else if is_held l (a1 ask) then answer l m ask back EBUSY
+    else answer l m ask back 0
 
 -- thread t takes a mutex that none holds
 abbrev pub taken : LibraryData → Memory → ℕ → Ask → ℕ → RowResult

@@ -1,5 +1,5 @@
 -- Input and output: POSIX read and write on descriptors 0, 1 and 2. How many bytes one call moves, and how many are kept, is this project's own.
-use Rattle.std.specs.Prelude.{ℕ, ◌+◌, ◌==◌, ◌||◌, nat_lt, min, if◌then◌else◌, length, take}
+use Rattle.std.specs.Prelude.{ℕ, ◌+◌, ◌==◌, ◌||◌, not, nat_lt, min, if◌then◌else◌, length, take}
 use Rattle.tso_memory.specs.Memory.{Memory, bytes_from, put_bytes}
 use Rattle.lib_table.specs.declared.ask.Ask.{Ask}
 use Rattle.lib_table.specs.declared.limits.TheConstants.{FAILED, MAX_BYTES, MAX_OUTPUT}
@@ -12,7 +12,9 @@ given l m ask back n = unless_denied (unwritable m (a2 ask) n) (Done (with_input
 
 -- read(a1, a2, a3): from descriptor 0 alone, and no bytes at the input's end
 unfoldable pub read : LibraryData → Memory → Ask → ℕ → RowResult
-read l m ask back = if low_32 (a1 ask) == 0 then given l m ask back (min (min (a3 ask) MAX_BYTES) (length l.input)) else answer l m ask back FAILED
+read l m ask back =
+    if not (low_32 (a1 ask) == 0) then answer l m ask back FAILED
+    else given l m ask back (min (min (a3 ask) MAX_BYTES) (length l.input))
 
 -- n bytes from a2 on are appended, where both outputs have room for them
 abbrev pub appended : LibraryData → Memory → Ask → ℕ → ℕ → RowResult
@@ -23,4 +25,5 @@ appended l m ask back n =
 -- write(a1, a2, a3): to descriptors 1 and 2 alone
 unfoldable pub write : LibraryData → Memory → Ask → ℕ → RowResult
 write l m ask back =
-    if low_32 (a1 ask) == 1 || low_32 (a1 ask) == 2 then appended l m ask back (min (a3 ask) MAX_BYTES) else answer l m ask back FAILED
+    if not (low_32 (a1 ask) == 1 || low_32 (a1 ask) == 2) then answer l m ask back FAILED
+    else appended l m ask back (min (a3 ask) MAX_BYTES)

@@ -94,10 +94,9 @@ fn function_waits(function: Function, library: &Library, t: u32, ask: &Ask) -> b
     }
 }
 
-/// Whether the request `ask` of thread `t` waits for another thread. Nothing changes.
+/// Whether the request `ask` of thread `t` waits for another thread: then [`lib_step`] answers `Waits`. Takes no memory.
 #[tactic(auto, unfolding(crate::specs::Row::row))]
 pub fn waits(library: &Library, memory: &Tso, t: u32, ask: &Ask) -> bool
-    requires { CanAsk library.now t ask.now }
     ensures { result ≡ waits library.now memory.now.memory t ask.now }
 {
     match ask.what {
