@@ -1,6 +1,6 @@
 -- What an entry costs: of the steps that are left, the waiting writes, the places that may be grown, and the one ending.
-use Rattle.std.proofs.Common.{◌≡◌, ℕ, zero, suc, ◌+◌, ◌-◌, ◌*◌, ◌<◌, ◌≤◌, Bool, true, false, cond, List, [], ◌∷◌, ◌++◌, Option, Some, None, refl, sym, ap, ◌∙◌, subst, slice_set, slice_index_or, length, sum_by, arith, length-append, inl, inr, not, nat_lt, nat_le, ◌&&◌}
-use Rattle.std.specs.Prelude.{option_and_then, is_none}
+use Rattle.std.proofs.Common.{◌≡◌, ℕ, ◌+◌, ◌-◌, ◌*◌, ◌<◌, ◌≤◌, Bool, true, false, List, [], ◌∷◌, ◌++◌, Option, Some, None, refl, sym, ap, ◌∙◌, subst, slice_set, slice_index_or, length, sum_by, arith, length-append, inl, inr, nat_lt, nat_le, ◌&&◌}
+use Rattle.std.specs.Prelude.{is_none}
 use Rattle.std.proofs.lemmas.Bool.{cases_lt}
 use Rattle.std.proofs.lemmas.Bool.Decides.{nat_tests}
 use Rattle.std.proofs.lemmas.List.{set_past, get_or_past}
@@ -9,7 +9,6 @@ use Rattle.std.proofs.lemmas.Option.{option_and_then_some, none-some, same_Some,
 use Rattle.elf_image.specs.Layout.{ImageData}
 use Rattle.lib_table.specs.declared.ask.Asked.{Asked}
 use Rattle.lib_table.specs.declared.ask.Asked.TheVariants.{Lib}
-use Rattle.lib_table.specs.Library.{LibraryData}
 use Rattle.lib_table.specs.Outcome.{RowResult, Done, Waits, Bad}
 use Rattle.tso_memory.specs.declared.change.Change.{Change}
 use Rattle.tso_memory.specs.declared.write.PendingWrite.{PendingWrite}
@@ -24,10 +23,10 @@ use Rattle.machine_model.specs.declared.ending.RunEnd.{RunEnd}
 use Rattle.machine_model.specs.declared.journal.Entry.{Entry}
 use Rattle.machine_model.specs.declared.journal.Entry.TheVariants.{Ev, Tick, Flush, Wait, Miss, Grow, Over, Full, Dead}
 use Rattle.machine_model.specs.CaseData.{CaseData}
-use Rattle.machine_model.specs.Conversions.{memory_width_of, memory_change_of, kind_of, asked_at}
+use Rattle.machine_model.specs.Conversions.{memory_width_of, memory_change_of, asked_at}
 use Rattle.machine_model.specs.State.{Core, Machine, core_at, with_core, list_at, start}
 use Rattle.machine_model.specs.Step.{loaded, stored, exchanged, flushed, newborn, with_birth, row_at, served, serving, carried_out, later, missed, refused, thread_of, private_of, admits, names_live, after_private, cpu_at, step_from, step}
-use Rattle.machine_model.specs.Gated.{Gate, Spot, Both, Stand, Latest, most_grown, spot_at, spot_last, spot_after, grown_by, gate_with, gated_steps, pass, with_gate, with_machine, advance, begin, Leads, IsGated}
+use Rattle.machine_model.specs.Gated.{Gate, Spot, Both, Stand, most_grown, spot_at, spot_last, spot_after, gate_with, gated_steps, pass, with_gate, with_machine, advance, begin, Leads, IsGated}
 use Rattle.machine_model.proofs.Independence.{if_some}
 
 abbrev pub waiting : Machine → ℕ

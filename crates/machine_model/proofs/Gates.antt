@@ -1,24 +1,23 @@
 -- Gated journals: longer ones, growth, and what entries of other threads leave.
-use Rattle.std.proofs.Common.{◌≡◌, ◌≢◌, ℕ, zero, suc, ◌+◌, ◌<◌, ◌≤◌, ◌⊎◌, Bool, true, false, cond, List, [], ◌∷◌, ◌++◌, Option, Some, None, refl, sym, ap, ◌∙◌, subst, arith, ◌==◌, ◌||◌, ◌&&◌, not, nat_lt, length, slice_index_or, Contains, inl, inr}
-use Rattle.std.specs.Prelude.{option_and_then, ⊤, IsTrue}
+use Rattle.std.proofs.Common.{◌≡◌, ◌≢◌, ℕ, zero, suc, ◌+◌, ◌<◌, Bool, true, false, cond, List, [], ◌∷◌, ◌++◌, Some, refl, sym, ap, ◌∙◌, subst, arith, ◌==◌, ◌||◌, not, length, slice_index_or, Contains}
+use Rattle.std.specs.Prelude.{option_and_then}
 use Rattle.std.proofs.lemmas.List.{get_or-set_other}
-use Rattle.std.proofs.lemmas.Option.{option_and_then_some, none-some, same_Some, cond_some}
+use Rattle.std.proofs.lemmas.Option.{option_and_then_some, same_Some, cond_some}
 use Rattle.elf_image.specs.Layout.{ImageData}
-use Rattle.lib_table.specs.Library.{life_at, is_running}
+use Rattle.lib_table.specs.Library.{is_running}
 use Rattle.x86_model.specs.declared.cpu.Cpu.{Cpu}
 use Rattle.x86_model.specs.Thread.{Thread}
 use Rattle.x86_model.specs.Want.{want}
 use Rattle.machine_model.specs.declared.journal.Entry.{Entry}
 use Rattle.machine_model.specs.declared.journal.Entry.TheVariants.{Ev, Tick, Flush, Wait, Miss, Grow, Over, Full, Dead}
 use Rattle.machine_model.specs.CaseData.{CaseData}
-use Rattle.machine_model.specs.State.{Machine, core_at, is_live, thread_at, list_at, start}
-use Rattle.machine_model.specs.Step.{cpu_at, step, thread_of, private_of, privately, is_code_place}
-use Rattle.machine_model.specs.Span.{span}
+use Rattle.machine_model.specs.State.{Machine, is_live, thread_at}
+use Rattle.machine_model.specs.Step.{cpu_at, step, thread_of, privately, is_code_place}
 use Rattle.machine_model.specs.Reach.{is_among}
 use Rattle.machine_model.specs.Play.{walk, play, own}
 use Rattle.machine_model.specs.Gated.{Gate, Spot, Both, Stand, no_spot, spot_at, entered, within_block, between_blocks, moved_on, gated_step, gated_steps, spot_last, spot_after, grown_by, gate_with, pass, IsAllowed, with_gate, with_machine, advance, begin, Leads, IsGated, Within, stand_at, Untouched}
-use Rattle.machine_model.proofs.Costs.{Came, came, both_of}
-use Rattle.machine_model.proofs.Independence.{Leaves, leaves, threads_stay, lists_stay, if_some}
+use Rattle.machine_model.proofs.Costs.{came, both_of}
+use Rattle.machine_model.proofs.Independence.{leaves, threads_stay, lists_stay}
 
 -- ---- longer journals
 

@@ -1,14 +1,13 @@
 -- What an entry leaves of the threads that it doesn't name.
 use Rattle.std.proofs.Common.{◌≡◌, ◌≢◌, ℕ, ◌+◌, Bool, true, false, cond, List, [], ◌∷◌, ◌++◌, Option, Some, None, refl, sym, ap, ◌∙◌, subst, slice_set}
-use Rattle.std.specs.Prelude.{option_and_then, find, not, ◌&&◌}
+use Rattle.std.specs.Prelude.{find, not, ◌&&◌}
 use Rattle.std.proofs.lemmas.List.{get_or-set_other}
 use Rattle.std.proofs.lemmas.Option.{option_and_then_some, none-some, same_Some, cond_some}
 use Rattle.lib_table.specs.declared.ask.Asked.{Asked}
 use Rattle.lib_table.specs.declared.ask.Asked.TheVariants.{Lib}
 use Rattle.lib_table.specs.Library as library
-use Rattle.lib_table.specs.Library.{LibraryData, life_at, birth}
+use Rattle.lib_table.specs.Library.{LibraryData, life_at}
 use Rattle.lib_table.specs.declared.life.Life.{Life}
-use Rattle.lib_table.specs.declared.life.Life.TheVariants.{Unborn}
 use Rattle.lib_table.specs.Outcome.{RowResult, Done, Waits, Bad}
 use Rattle.tso_memory.specs.declared.change.Change.{Change}
 use Rattle.tso_memory.specs.declared.write.PendingWrite.{PendingWrite}
@@ -24,9 +23,9 @@ use Rattle.machine_model.specs.declared.ending.RunEnd.{RunEnd}
 use Rattle.machine_model.specs.declared.journal.Entry.{Entry}
 use Rattle.machine_model.specs.declared.journal.Entry.TheVariants.{Ev, Tick, Flush, Wait, Miss, Grow, Over, Full, Dead}
 use Rattle.machine_model.specs.CaseData.{CaseData}
-use Rattle.machine_model.specs.Conversions.{memory_width_of, memory_change_of, kind_of, asked_at}
+use Rattle.machine_model.specs.Conversions.{memory_width_of, memory_change_of, asked_at}
 use Rattle.machine_model.specs.State.{Core, no_core, Machine, core_at, with_core, life_of, list_at, is_live, thread_at, thread_numbers}
-use Rattle.machine_model.specs.Step.{loaded, stored, exchanged, flushed, newborn, with_birth, born_core, called, exit_by, row_at, ask_of, served, serving, carried_out, later, missed, refused, thread_of, private_of, admits, after_private, cpu_at, step_from, step}
+use Rattle.machine_model.specs.Step.{loaded, stored, exchanged, flushed, newborn, with_birth, row_at, ask_of, served, serving, carried_out, later, missed, refused, thread_of, private_of, admits, after_private, cpu_at, step_from, step}
 use Rattle.machine_model.proofs.RowLives.{row_lives}
 
 pub record Leaves (m n : Machine) (t : ℕ) : Type 0 where

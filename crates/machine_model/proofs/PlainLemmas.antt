@@ -1,5 +1,5 @@
 -- What the plain program rests on, beside the definitions.
-use Rattle.std.proofs.Common.{◌≡◌, ℕ, zero, suc, ◌+◌, ◌-◌, ◌<◌, ◌≤◌, Bool, true, false, cond, not, List, [], ◌∷◌, ◌++◌, Option, Some, None, refl, sym, ap, ◌∙◌, subst, arith, length, map, take, get_or, length-take, add-one, ◌&&◌, ◌||◌}
+use Rattle.std.proofs.Common.{◌≡◌, ℕ, zero, suc, ◌+◌, ◌-◌, ◌<◌, ◌≤◌, Bool, true, false, cond, not, List, [], ◌∷◌, ◌++◌, Option, Some, None, refl, sym, ap, ◌∙◌, subst, arith, length, map, get_or, length-take, add-one, ◌&&◌, ◌||◌}
 use Rattle.std.specs.Prelude.{IsSome, is_none, nat_le, slice_get, slice_index_or, find, option_and_then}
 use Rattle.std.proofs.lemmas.Bool.Decides.{nat_tests}
 use Rattle.tso_memory.specs.declared.write.PendingWrite.{PendingWrite}
@@ -21,7 +21,7 @@ use Rattle.machine_model.specs.Plain.{HasRoom, IsAnswer}
 use Rattle.lib_table.specs.Library as table
 use Rattle.lib_table.specs.Library.{LibraryData}
 use Rattle.machine_model.specs.State.{Core, Machine, thread_numbers}
-use Rattle.machine_model.specs.Step.{admits, after_private, ask_of, cpu_at, names_live, newborn, private_of, privately, step, step_from, thread_of, searches_before, without_top}
+use Rattle.machine_model.specs.Step.{admits, after_private, ask_of, cpu_at, names_live, newborn, private_of, privately, step, step_from, thread_of, searches_before}
 
 some_top : (frames : List Frame) → IsSome (slice_get frames (length frames - 1)) → 0 < length frames
 some_top [] h = absurd (let e : false ≡ true = h in cc)

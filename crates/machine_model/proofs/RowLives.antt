@@ -1,6 +1,6 @@
 -- A library's row leaves the life of every live thread but its own, and what it answers fits what was asked.
-use Rattle.std.proofs.Common.{◌≡◌, ◌≢◌, ℕ, ◌+◌, ◌-◌, ◌<◌, Bool, true, false, cond, not, Option, Some, None, refl, sym, ap, ◌∙◌, subst, arith, slice_index_or, length-set, ◌==◌, nat_lt, nat_le, length}
-use Rattle.std.specs.Prelude.{⊤, IsSome, ℤ, pos, negsuc, zero, suc}
+use Rattle.std.proofs.Common.{◌≡◌, ◌≢◌, ℕ, ◌+◌, ◌-◌, ◌<◌, Bool, true, false, cond, Option, Some, None, refl, sym, ap, ◌∙◌, subst, arith, slice_index_or, length-set, ◌==◌, nat_lt, nat_le, length}
+use Rattle.std.specs.Prelude.{⊤, not, ◌||◌, option_map, IsSome, ℤ, pos, negsuc, zero, suc}
 use Rattle.std.proofs.lemmas.Bool.Decides.{nat_tests}
 use Rattle.std.proofs.lemmas.List.{get_or-set_other}
 use Rattle.std.proofs.lemmas.List.Quantifiers.{position-Some}
@@ -18,15 +18,15 @@ use Rattle.lib_table.specs.declared.ask.Asked.{Asked}
 use Rattle.lib_table.specs.declared.ask.Asked.TheVariants.{Lib, EndDoor, CallDoor}
 use Rattle.lib_table.specs.declared.life.Life.{Life}
 use Rattle.lib_table.specs.declared.life.Life.TheVariants.{Unborn, Live, Ended, Joined}
-use Rattle.lib_table.specs.Library.{LibraryData, life_at, with_life, is_live, is_running, is_unborn, next_number, stack_top}
-use Rattle.lib_table.specs.Outcome.{RowResult, Done, Waits, Bad, a1, a2, a3, unless_denied, unwritable, unreadable, word_at}
-use Rattle.lib_table.specs.Threads.{create, born, join, joining, joined, self_id, end_door, ended}
+use Rattle.lib_table.specs.Library.{LibraryData, is_held, life_at, with_life, is_live, is_running, is_unborn, next_number, stack_top}
+use Rattle.lib_table.specs.Outcome.{RowResult, Done, Waits, Bad, a1, a2, a3, a4, low_32, unless_denied, unwritable, unreadable, word_at}
+use Rattle.lib_table.specs.Threads.{create, born_if, join, joining, joined, self_id, end_door, ended}
 use Rattle.lib_table.specs.Mutexes.{init, lock, trylock, unlock, destroy, taken}
 use Rattle.lib_table.specs.Searches.{comparison, new_frame, search_for, searching, searching_on, call_door, compared}
-use Rattle.lib_table.specs.Streams.{read, write, given, appended}
+use Rattle.lib_table.specs.Streams.{read, write}
 use Rattle.machine_model.specs.Plain.{HasElements, HasRoom, IsAnswer}
 use Rattle.callbacks.specs.Frame.{element, middle, probe, probing, resumed}
-use Rattle.lib_table.specs.Row.{row, asked_row, call_row, function_row}
+use Rattle.lib_table.specs.Row.{row, asked_row, call_row}
 
 -- the life of thread u stays, where it lives and isn't the one that asks; and how many lives there are
 pub record Stays (l after : LibraryData) (t u : ℕ) (what : Asked) (ask : Ask) (called : Called) : Type 0 where
@@ -76,18 +76,18 @@ module _ (l : LibraryData) (t u : ℕ) (what : Asked) (ask : Ask) where
   unborn_dead (Ended v) e = refl
   unborn_dead Joined e = refl
 
-  born_kept : (m : Memory) (back : ℕ) (o : Option ℕ) → next_number l ≡ o → Kept l t u what ask (born l m ask back o)
-  born_kept m back None e = same _ _ _ refl tt
-  born_kept m back (Some v) e =
+  born_kept : (m : Memory) (back start argument : ℕ) (o : Option ℕ) → next_number l ≡ o → Kept l t u what ask (born_if l m ask back (option_map (λ v. (v, with_life l v (Live start argument))) o))
+  born_kept m back start argument None e = same _ _ _ refl tt
+  born_kept m back start argument (Some v) e =
       denied_kept (unwritable m (a1 ask) 8) _ (denied_kept (unwritable m (stack_top v - 8) 8) _
       (set_other v _ _ _ (unborn_dead (life_at l v) ((position-Some is_unborn l.lives v Unborn e).1)) tt))
 
   create_kept : (m : Memory) (back : ℕ) → Kept l t u what ask (create l m ask back)
   unfolding create
-  create_kept m back = if_kept (a2 ask == 0) _ _ (born_kept m back (next_number l) refl) (same _ _ _ refl tt)
+  create_kept m back = if_kept (not (a2 ask == 0)) _ _ (same _ _ _ refl tt) (born_kept m back (a3 ask) (a4 ask) (next_number l) refl)
 
   joined_kept : (m : Memory) (back v value : ℕ) → is_running (life_at l v) ≡ false → Kept l t u what ask (joined l m ask back v value)
-  joined_kept m back v value dead = if_kept (a2 ask == 0) _ _ (set_other v Joined _ _ dead tt) (denied_kept (unwritable m (a2 ask) 8) _ (set_other v Joined _ _ dead tt))
+  joined_kept m back v value dead = if_kept (not (a2 ask == 0)) _ _ (denied_kept (unwritable m (a2 ask) 8) _ (set_other v Joined _ _ dead tt)) (set_other v Joined _ _ dead tt)
 
   joining_kept : (m : Memory) (back v : ℕ) (life : Life) → life_at l v ≡ life → Kept l t u what ask (joining l m t ask back v life)
   joining_kept m back v Unborn e = same _ _ _ refl tt
@@ -105,7 +105,7 @@ module _ (l : LibraryData) (t u : ℕ) (what : Asked) (ask : Ask) where
 
   init_kept : (m : Memory) (back : ℕ) → Kept l t u what ask (init l m ask back)
   unfolding init
-  init_kept m back = if_kept _ _ _ (if_kept _ _ _ (same _ _ _ refl tt) (same _ _ _ refl tt)) (same _ _ _ refl tt)
+  init_kept m back = if_kept (not (a2 ask == 0)) _ _ (same _ _ _ refl tt) (if_kept (is_held l (a1 ask)) _ _ (same _ _ _ refl tt) (same _ _ _ refl tt))
 
   taken_kept : (m : Memory) (back : ℕ) → Kept l t u what ask (taken l m t ask back)
   taken_kept m back = if_kept _ _ _ (same _ _ _ refl tt) (same _ _ _ refl tt)
@@ -164,7 +164,7 @@ module _ (l : LibraryData) (t u : ℕ) (what : Asked) (ask : Ask) where
 
   read_kept : (m : Memory) (back : ℕ) → Kept l t u what ask (read l m ask back)
   unfolding read
-  read_kept m back = if_kept _ _ _ (denied_kept _ _ (same _ _ _ refl tt)) (same _ _ _ refl tt)
+  read_kept m back = if_kept (not (low_32 (a1 ask) == 0)) _ _ (same _ _ _ refl tt) (denied_kept _ _ (same _ _ _ refl tt))
 
   output_same : (b : Bool) (x y : LibraryData) → x.lives ≡ l.lives → y.lives ≡ l.lives → (cond b x y).lives ≡ l.lives
   output_same true x y p q = p
@@ -172,7 +172,7 @@ module _ (l : LibraryData) (t u : ℕ) (what : Asked) (ask : Ask) where
 
   write_kept : (m : Memory) (back : ℕ) → Kept l t u what ask (write l m ask back)
   unfolding write
-  write_kept m back = if_kept _ _ _ (if_kept _ _ _ (same _ _ _ refl tt) (denied_kept _ _ (same _ _ _ (output_same _ _ _ refl refl) tt))) (same _ _ _ refl tt)
+  write_kept m back = if_kept (not (low_32 (a1 ask) == 1 || low_32 (a1 ask) == 2)) _ _ (same _ _ _ refl tt) (if_kept _ _ _ (same _ _ _ refl tt) (denied_kept _ _ (same _ _ _ (output_same _ _ _ refl refl) tt)))
 
   call_kept : (f : Function) (m : Memory) → (ask.depth < 16 → HasRoom what ask) → Kept l t u what ask (call_row f l m t ask)
   unfolding self_id

@@ -1,12 +1,12 @@
 -- Walks over lists, and played journals.
-use Rattle.std.proofs.Common.{◌≡◌, ℕ, ◌+◌, Bool, true, false, cond, List, [], ◌∷◌, ◌++◌, Option, Some, None, refl, sym, ap, ◌∙◌, subst}
+use Rattle.std.proofs.Common.{◌≡◌, ◌+◌, cond, List, [], ◌∷◌, ◌++◌, Option, Some, None, refl, ap, ◌∙◌}
 use Rattle.std.specs.Prelude.{option_and_then, is_none, nat_le, ◌&&◌}
-use Rattle.std.proofs.lemmas.Option.{option_and_then_some, none-some}
+use Rattle.std.proofs.lemmas.Option.{none-some}
 use Rattle.machine_model.specs.declared.ending.RunEnd.{RunEnd}
 use Rattle.machine_model.specs.declared.journal.Entry.{Entry}
 use Rattle.machine_model.specs.CaseData.{CaseData}
 use Rattle.machine_model.specs.State.{Machine, start}
-use Rattle.machine_model.specs.Step.{step, admits, names_live, private_of, thread_of, cpu_at, step_from, after_private}
+use Rattle.machine_model.specs.Step.{step, names_live, private_of, thread_of, cpu_at, step_from, after_private}
 use Rattle.machine_model.specs.Play.{walk, play}
 
 pub walk_append : {S E : Type 0} (f : S → E → Option S) (s : S) (xs ys : List E) → walk f s (xs ++ ys) ≡ option_and_then (λ n. walk f n ys) (walk f s xs)

@@ -1,5 +1,5 @@
 -- Journals that run only what is grown: a walk over a journal with the set of grown places and each thread's position.
-use Rattle.std.specs.Prelude.{◌≡◌, ℕ, zero, suc, ◌+◌, ◌≤◌, Bool, true, false, ◌&&◌, ◌||◌, not, ◌==◌, ◌⊎◌, nat_lt, if◌then◌else◌, List, [], ◌∷◌, length, count_by, replicate, slice_index_or, slice_set, Option, Some, None, option_and_then, IsTrue, ⊤}
+use Rattle.std.specs.Prelude.{◌≡◌, ℕ, zero, suc, ◌+◌, ◌≤◌, Bool, true, false, ◌&&◌, not, ◌==◌, ◌⊎◌, nat_lt, if◌then◌else◌, List, [], ◌∷◌, length, count_by, replicate, slice_index_or, slice_set, Option, Some, None, option_and_then, IsTrue, ⊤}
 use Rattle.elf_image.specs.Layout.{ImageData}
 use Rattle.x86_model.specs.declared.cpu.Cpu.{Cpu}
 use Rattle.x86_model.specs.Want.{want}

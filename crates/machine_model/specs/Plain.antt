@@ -12,7 +12,7 @@ use Rattle.machine_model.specs.declared.journal.Entry.TheVariants.{Ev, Tick, Flu
 use Rattle.machine_model.specs.declared.plain.machine.PlainFault.{PlainFault}
 use Rattle.machine_model.specs.declared.plain.machine.PlainFault.TheVariants.{Lay, Crowded, Memory}
 use Rattle.machine_model.specs.CaseData.{CaseData}
-use Rattle.machine_model.specs.State.{Core, Machine, list_at}
+use Rattle.machine_model.specs.State.{Machine, list_at}
 use Rattle.machine_model.specs.Play.{play}
 
 -- a search under way has elements left

@@ -14,15 +14,15 @@ use Rattle.lib_table.specs.declared.ask.Asked.{Asked}
 use Rattle.lib_table.specs.declared.ask.Asked.TheVariants.{Lib, EndDoor, CallDoor}
 use Rattle.lib_table.specs.Library.{LibraryData, birth}
 use Rattle.lib_table.specs.Library as library
-use Rattle.lib_table.specs.Outcome.{RowResult, Done, Waits, Bad, a1, low_32}
+use Rattle.lib_table.specs.Outcome.{RowResult, Done, Waits, Bad, low_32}
 use Rattle.lib_table.specs.Row.{row, is_waiting}
 use Rattle.miss_report.specs.declared.miss.Miss.{Miss as MissData}
 use Rattle.tso_memory.specs.declared.access.Access.{Access as Right}
 use Rattle.tso_memory.specs.declared.access.Access.TheVariants as access
 use Rattle.tso_memory.specs.declared.change.Change as memory_change
 use Rattle.tso_memory.specs.declared.write.PendingWrite.{PendingWrite}
-use Rattle.tso_memory.specs.Buffer.{pending, size_of, bytes_of_write}
-use Rattle.tso_memory.specs.Memory.{may, first_denied, number_from, put_bytes}
+use Rattle.tso_memory.specs.Buffer.{pending, size_of}
+use Rattle.tso_memory.specs.Memory.{may, first_denied, number_from}
 use Rattle.tso_memory.specs.Tso as tso
 use Rattle.tso_memory.specs.Tso.{seen_by, is_none_waiting, memory_number}
 use Rattle.x86_model.specs.declared.cpu.Cpu.{Cpu}

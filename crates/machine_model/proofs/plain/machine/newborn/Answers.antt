@@ -1,4 +1,4 @@
-use Rattle.std.proofs.Common.{arith, sym, ◌≡◌, ◌<◌, true, false, not, ◌&&◌, get_or}
+use Rattle.std.proofs.Common.{arith, sym, ◌≡◌, true, false, not, ◌&&◌, get_or}
 use Rattle.std.proofs.lemmas.Grind.{common_steps}
 use Rattle.lib_table.specs.Library as table
 use Rattle.machine_model.proofs.PlainLemmas.{is_newborn, no_newborn}

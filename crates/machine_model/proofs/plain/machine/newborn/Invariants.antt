@@ -1,4 +1,4 @@
-use Rattle.std.proofs.Common.{◌≡◌, ◌<◌, ℕ, Bool, false, ◌&&◌, not, get_or}
+use Rattle.std.proofs.Common.{◌≡◌, ◌<◌, ℕ, false, ◌&&◌, not, get_or}
 use Rattle.lib_table.specs.Library.{is_live}
 use Rattle.machine_model.proofs.plain.machine.newborn.Given as goal
 
