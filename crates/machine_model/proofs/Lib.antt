@@ -6,3 +6,10 @@ pub mod Spelled
 pub mod Found
 pub mod Onward
 pub mod Runs
+pub mod RowLives
+pub mod Walks
+pub mod Independence
+pub mod Costs
+pub mod Gates
+pub mod PlainLemmas
+pub mod PlainPlay
