@@ -9,3 +9,4 @@ pub mod Runs
 pub mod LiftNumbers
 pub mod LiftWords
 pub mod LiftFollow
+pub mod LiftAlu

@@ -23,8 +23,12 @@ use Rattle.x86_model.specs.Accesses.{first_access, memory_of, memory_in}
 use Rattle.x86_model.specs.Finishing.{finished}
 use Rattle.x86_model.specs.Operands.{address, value, assigned, given}
 use Rattle.x86_model.specs.Registers.{reg, put, put_high, going_to}
-use Rattle.x86_model.specs.Want.{want_of}
-use Rattle.machine_model.specs.Follow.{Agrees, Follows, Onward, Lifts, having}
+use Rattle.x86_model.specs.Want.{want_of, begun}
+use Rattle.x86_model.specs.declared.want.BadStep.TheVariants as bad_step
+use Rattle.ir_syntax.specs.declared.request.BadKind.TheVariants as bad_kind
+use Rattle.ir_syntax.specs.declared.request.Request.{Request}
+use Rattle.ir_syntax.specs.declared.request.Request.TheVariants as ask
+use Rattle.machine_model.specs.Follow.{Agrees, Follows, Meets, Onward, Lifts, having}
 use Rattle.machine_model.specs.LiftLines.{ir_width, loads, puts, end_at, alone, given_at}
 use Rattle.machine_model.specs.LiftTable.{lifted}
 use Rattle.machine_model.proofs.LiftNumbers.{written_lt, written_high_lt, set_below}
@@ -77,6 +81,17 @@ IsAt next s temps (operand.Mem m) = slice_index temps 0 ≡ address s next m
 IsAt next s temps (operand.Reg r) = ⊤
 IsAt next s temps (operand.High r) = ⊤
 IsAt next s temps (operand.Imm n) = ⊤
+
+-- an address depends on registers alone
+address_regs : (next : ℕ) (m : Mem) (s t : Cpu) → s.regs ≡ t.regs → address s next m ≡ address t next m
+unfolding address
+address_regs next m s t e = ap (λ regs. address (record s { regs = regs }) next m) e
+
+pub is_at_same : (next : ℕ) (s t : Cpu) (xs ys : List ℕ) (o : Operand) → s.regs ≡ t.regs → slice_index ys 0 ≡ slice_index xs 0 → IsAt next s xs o → IsAt next t ys o
+is_at_same next s t xs ys (operand.Mem m) e f h = f ∙ h ∙ address_regs next m s t e
+is_at_same next s t xs ys (operand.Reg r) e f h = tt
+is_at_same next s t xs ys (operand.High r) e f h = tt
+is_at_same next s t xs ys (operand.Imm n) e f h = tt
 
 put_follows : (i : Instr) (next : ℕ) (w : Width) (o : Operand) (k : ℕ) (ops : List Op) (v : Virtual) (s t : Cpu) (temps : List ℕ) → did_all ops v ≡ virtual t.regs temps t.flags → slice_index temps k < 2 ^ bits_in w → OperandFits w o → want_of i next s ≡ want.Private (going_to (assigned t w o (slice_index temps k)) next) → Numbers t.regs → length temps ≡ 8 → Follows i next (alone (ops ++ puts w o k) ends.Tick) v s Onward
 put_follows i next w o k ops v s t temps e l fit d h room =
@@ -176,12 +191,47 @@ no_access Pause next s e = refl
 no_access Endbr next s e = refl
 no_access _ next s e = let no : ⊥ = cc in absurd no
 
+begun_none : (m : Option ℕ) (access : Option Want) (end : Want) → m ≡ None → access ≡ None → begun m access end ≡ end
+begun_none None None end e f = refl
+begun_none None (Some w) end e f = let no : ⊥ = cc in absurd no
+begun_none (Some v) access end e f = let no : ⊥ = cc in absurd no
+
+begun_some : (m : Option ℕ) (x : ℕ) (access : Option Want) (end : Want) → m ≡ Some x → begun m access end ≡ end
+begun_some None x access end e = let no : ⊥ = cc in absurd no
+begun_some (Some v) x access end e = refl
+
 pub quiet : (i : Instr) (next : ℕ) (s : Cpu) → touches_memory i ≡ false → s.mid ≡ None → want_of i next s ≡ finished i next s
 unfolding want_of
-quiet i next s e m = rw (m, no_access i next s e)
+quiet i next s e m = begun_none s.mid (first_access i next s) (finished i next s) m (no_access i next s e)
+
+-- an instruction that has loaded what it reads ends
+pub resumed : (i : Instr) (next : ℕ) (s : Cpu) (x : ℕ) → s.mid ≡ Some x → want_of i next s ≡ finished i next s
+unfolding want_of
+resumed i next s x m = begun_some s.mid x (first_access i next s) (finished i next s) m
 
 -- ---- a block
 
+meets_map : (q : Request) (w : Want) (next : ℕ) (D E : ℕ → Cpu → Type 0) (M N : ℕ → Type 0) → ((a : ℕ) (t : Cpu) → D a t → E a t) → ((n : ℕ) → M n → N n) → Meets q w next D M → Meets q w next E N
+meets_map ask.Tick (want.Private s) next D E M N f g h = f next s h
+meets_map (ask.Go a) (want.Private s) next D E M N f g h = f a s h
+meets_map (ask.Store a w v) (want.Store at u x s) next D E M N f g h = (h.0, h.1, h.2, f next s h.3)
+meets_map (ask.StoreGo a v to) (want.Store at u x s) next D E M N f g h = (h.0, h.1, h.2, f to s h.3)
+meets_map ask.Fence (want.Fence s) next D E M N f g h = f next s h
+meets_map (ask.Load a w) (want.Load at u) next D E M N f g h = (h.0, h.1, g (bits_in u) h.2)
+meets_map (ask.Locked a w c) (want.Locked at u d) next D E M N f g h = (h.0, h.1, h.2, g (bits_in u) h.3)
+meets_map (ask.Bad bad_kind.Code) (want.Bad bad_step.Code) next D E M N f g h = h
+meets_map (ask.Bad bad_kind.Divide) (want.Bad bad_step.Divide) next D E M N f g h = h
+meets_map _ _ next D E M N f g h = absurd h
+
 -- what holds after an instruction may be weakened
 pub follow_map : (i : Instr) (next : ℕ) (ps : List Part) (v : Virtual) (s : Cpu) (T U : ℕ → Virtual → Cpu → Type 0) → ((a : ℕ) (u : Virtual) (t : Cpu) → T a u t → U a u t) → Follows i next ps v s T → Follows i next ps v s U
-follow_map i next ps v s T U f h = ?
+follow_map i next [] v s T U f h = absurd h
+follow_map i next (p ∷ ps) v s T U f h =
+    meets_map (does p v).request (want_of i next s) next
+    (λ a t. (ps ≡ []) × T a (does p v).state t)
+    (λ a t. (ps ≡ []) × U a (does p v).state t)
+    (λ n. (x : ℕ) → x < 2 ^ n → Agrees (Some x) (answered p.end x (does p v).state) (having s x) × Follows i next ps (answered p.end x (does p v).state) (having s x) T)
+    (λ n. (x : ℕ) → x < 2 ^ n → Agrees (Some x) (answered p.end x (does p v).state) (having s x) × Follows i next ps (answered p.end x (does p v).state) (having s x) U)
+    (λ a t e. (e.0, f a (does p v).state t e.1))
+    (λ n e x l. ((e x l).0, follow_map i next ps (answered p.end x (does p v).state) (having s x) T U f (e x l).1))
+    h
