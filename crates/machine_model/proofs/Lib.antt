@@ -10,3 +10,4 @@ pub mod LiftNumbers
 pub mod LiftWords
 pub mod LiftFollow
 pub mod LiftAlu
+pub mod LiftMoves
