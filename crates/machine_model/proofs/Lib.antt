@@ -11,3 +11,4 @@ pub mod LiftWords
 pub mod LiftFollow
 pub mod LiftAlu
 pub mod LiftMoves
+pub mod LiftArith
