@@ -7,7 +7,7 @@
 //! The opcode's row is chosen by `match` in `dispatch`, which is proved equal to a search through the
 //! whole table of `x86_forms`; the rules of the other bytes are that crate's functions.
 //!
-//! The machine, the lifter and replay stand on this crate. It stands on `x86_forms`.
+//! It is for the lifter and for replay, which don't stand yet. It stands on `x86_forms`.
 #![tactic(auto)]
 
 mod cursor;

@@ -191,6 +191,7 @@ pub fn decode(bytes: &[u8]) -> Option<(Instr, u8)>
     ensures within { IfSome result (λ x. x.1 ≤ length bytes.now) }
     ensures short { IfSome result (λ x. x.1 ≤ 15) }
     ensures nothing { result ≡ None → (n : ℕ) → SpellsNothing (take n bytes.now) }
+    ensures reads { result ≡ read bytes.now }
 {
     read(bytes)
 }

@@ -1,6 +1,7 @@
 //! Worked byte strings with what objdump and the SDM's tables say of them.
 
 use super::*;
+use std::test::Fail;
 use x86_forms::{AluOp, Base, Instr, Mem, Operand, Width};
 
 fn mem(base: Base, index: Option<u8>, scale: u8, disp: i32) -> Operand {
@@ -25,7 +26,7 @@ fn xchg(w: Width, a: u8) -> Instr {
 }
 
 #[test]
-fn worked_strings(rt: HostRuntime) {
+fn worked_strings(rt: HostRuntime) -> Result<(), Fail> {
     let rax = Operand::Reg(0);
     let at_rip = mov(Width::W64, rax, mem(Base::Rip, None, 1, 16));
     let at_table = mov(Width::W32, rax, mem(Base::None, Some(12), 4, 4096));
@@ -47,11 +48,16 @@ fn worked_strings(rt: HostRuntime) {
         reg: rax,
     };
     let jump = Instr::JmpTo { src: rax };
+    let swap = Instr::Xchg {
+        w: Width::W32,
+        a: mem(Base::Reg(3), None, 1, 0),
+        b: rax,
+    };
     let longest = [
         0x66, 0x66, 0x66, 0x66, 0x66, 0x66, 0x66, 0x66, 0x66, 0x66, 0x66, 0x66, 0x66, 0x66, 0x66,
         0x90,
     ];
-    let rows: [(&[u8], Option<(Instr, u8)>); 21] = [
+    let rows: [(&[u8], Option<(Instr, u8)>); 25] = [
         (&[0xC3], Some((Instr::Ret { extra: 0 }, 1))),
         (&[0xF3, 0xC3], Some((Instr::Ret { extra: 0 }, 2))),
         (&[0xF3, 0x48, 0xC3], None),
@@ -79,15 +85,23 @@ fn worked_strings(rt: HostRuntime) {
         (&[0x41, 0x8B, 0x45, 0xFC], Some((below, 4))),
         (&[0x48, 0x83, 0xE0, 0x80], Some((ones, 4))),
         (&[0x63, 0xC1], None),
+        (&[0x66, 0xF7, 0xE1], None),
+        (&[0xC1, 0xF0, 0x05], None),
+        (&[0x87, 0x03], Some((swap, 2))),
+        (&[0xF0, 0x87, 0x03], Some((swap, 3))),
         (&longest[1..], Some((Instr::Nop, 15))),
         (&longest, None),
         (&[], None),
     ];
     for (bytes, answer) in rows {
         assert!(rt; decode(bytes) == answer, "at {bytes:?}");
+        if answer.is_some() {
+            let mut longer = Vec::from_slice(rt.alloc(), bytes)?;
+            longer.extend_from_slice(&[0xC3, 0x00, 0xF0, 0x90, 0x66])?;
+            assert!(rt; decode(&longer) == answer, "at {longer:?}");
+        }
     }
-    assert!(rt; decode(&[0x40, 0x90, 0xC3, 0xC3]) == Some((Instr::Nop, 2)));
-    assert!(rt; decode(&[0xF3, 0xC3, 0x90]) == Some((Instr::Ret { extra: 0 }, 2)));
+    Ok(())
 }
 
 // Whether instructions of these lengths follow one another to the end.

@@ -1,13 +1,12 @@
 ghost use Rattle.std.specs.Prelude.{◌≡◌, ◌≤◌, length, drop};
-ghost use Rattle.elf_image.specs.Layout.{function_at};
-ghost use Rattle.x86_forms.specs.Reading.{read};
-ghost use Rattle.x86_model.specs.Want.{want_of, door_at, code_from, standing, want};
+ghost use Rattle.x86_model.specs.Want.{want_of, door_at, code_from, want};
 
 use crate::accesses::first_access;
 use crate::cpu::Cpu;
 use crate::finishing::finished;
 use crate::want::{BadStep, Door, Want};
 use elf_image::Image;
+use x86_decode::decode;
 use x86_forms::Instr;
 
 /// What an instruction wants, where `next` is the address of the next instruction: its load or locked
@@ -58,12 +57,11 @@ pub fn code_from(image: &Image, a: u64) -> &[u8]
     }
 }
 
-/// What a thread wants, where `spelled` is the instruction that is spelled at rip in the bytes of one
-/// executable segment and its length, or none where none is.
+/// What a thread wants: at a door or a place of a library function that, else by the instruction that
+/// is spelled at rip in the bytes of one executable segment, and a bad step where none is.
 #[tactic(auto, unfolding(crate::specs::Want::want))]
-pub fn next_want(image: &Image, spelled: Option<(Instr, u8)>, cpu: Cpu) -> Want
-    ensures places { result ≡ standing (door_at cpu.rip) (function_at cpu.rip image.now.entries) spelled cpu }
-    ensures want { read (code_from image.now.segments cpu.rip) ≡ spelled → result ≡ want image.now cpu }
+pub fn next_want(image: &Image, cpu: Cpu) -> Want
+    ensures { result ≡ want image.now cpu }
 {
     if let Some(door) = door_at(cpu.rip) {
         return Want::Door(door);
@@ -71,7 +69,7 @@ pub fn next_want(image: &Image, spelled: Option<(Instr, u8)>, cpu: Cpu) -> Want
     if let Some(function) = image.function_at(cpu.rip) {
         return Want::Call(function);
     }
-    match spelled {
+    match decode(code_from(image, cpu.rip)) {
         None => Want::Bad(BadStep::Code),
         Some((instr, length)) => want_of(instr, cpu.rip.wrapping_add(length as u64), cpu),
     }

@@ -6,9 +6,9 @@
 //! (`specs/Finishing.antt`) what it does once that is there. `Thread` (`specs/Thread.antt`) is a whole
 //! thread: what its instructions work on, the searches under way, its life.
 //!
-//! `next_want` and `want_of` are a plain, slow program that computes the definition. It serves tests
-//! alone; no running code calls it. The machine of all threads stands on the definitions. The crate
-//! stands on `elf_image`, `x86_forms`, `x86_flags` and `callbacks`.
+//! `next_want` and `want_of` are a plain, slow program that computes the definition: `next_want` finds
+//! the instruction at rip by the decoder. It serves tests alone; no running code calls it. The crate
+//! stands on `elf_image`, `x86_forms`, `x86_flags`, `callbacks` and `x86_decode`.
 #![tactic(auto)]
 
 mod accesses;

@@ -8,8 +8,9 @@ type Field = (usize, u64, usize);
 
 // The file header at 0, two program headers at 64, three section headers at 176, three symbols at
 // 368 (exit at 0x401f00, read at 0x401f20), strings at 440, code at 451. The code is at 0x401000 in
-// 0x1000 bytes that can be run, the data at 0x402000 in 0x1000 bytes that can be written.
-const FILE: [Field; 43] = [
+// 0x1000 bytes that can be run: mov edi, 7; jmp exit; CC; zeros. The data is at 0x402000 in 0x1000
+// bytes that can be written.
+const FILE: [Field; 44] = [
     (0, 0x0001_0102_464c_457f, 8),
     (16, 2, 2),
     (18, 62, 2),
@@ -24,7 +25,7 @@ const FILE: [Field; 43] = [
     (68, 5, 4),
     (72, 451, 8),
     (80, 0x40_1000, 8),
-    (96, 10, 8),
+    (96, 11, 8),
     (104, 0x1000, 8),
     (120, 1, 4),
     (124, 6, 4),
@@ -53,10 +54,11 @@ const FILE: [Field; 43] = [
     (446, 0x6461_6572, 4),
     (451, 0x0ef6_e900_0000_07bf, 8),
     (459, 0, 2),
+    (461, 0xcc, 1),
 ];
 
 fn file(alloc: Global) -> Result<Vec<u8>, AllocError> {
-    let mut bytes = vec![in alloc; 0u8; 461]?;
+    let mut bytes = vec![in alloc; 0u8; 462]?;
     for (at, value, size) in FILE {
         let mut place = at;
         for byte in value.to_le_bytes().iter().take(size) {
@@ -69,46 +71,48 @@ fn file(alloc: Global) -> Result<Vec<u8>, AllocError> {
     Ok(bytes)
 }
 
-fn wants(image: &Image, spelled: Option<(Instr, u8)>, rip: u64) -> Want {
-    next_want(image, spelled, cpu(R, "c", rip, 0, None))
+// One step from rip, where rax is 0x8000.
+fn wants(image: &Image, rip: u64) -> Want {
+    next_want(image, cpu([0x8000, 0, 0, 0, 0, 0], "c", rip, 1, None))
+}
+
+// After a step at rip that leaves 7 in edi or changes no register, and goes on at `to`.
+fn stepped(edi: u64, rip: u64, to: u64) -> Want {
+    let mut next = cpu([0x8000, 0, 0, 0, 0, 0], "c", to, rip, None);
+    next.regs[7] = edi;
+    Want::Private(next)
 }
 
 #[test]
-fn doors_and_library_places_come_first(rt: HostRuntime) -> Result<(), Fail> {
+fn what_stands_at_rip_decides(rt: HostRuntime) -> Result<(), Fail> {
     let bytes = file(rt.alloc())?;
     let image = load_image(rt.alloc(), &bytes)
         .ok()
         .ok_or("the file is loaded")?;
-    let nop = Some((Instr::Nop, 1));
-    assert_eq!(rt; wants(&image, nop, 0x7000_00ff_0000), Want::Door(Door::End));
-    assert_eq!(rt;
-        wants(&image, nop, 0x7000_00ff_0010),
-        Want::Door(Door::Call)
-    );
-    assert_eq!(rt; wants(&image, nop, 0x40_1f00), Want::Call(Function::Exit));
-    assert_eq!(rt; wants(&image, nop, 0x40_1f20), Want::Call(Function::Read));
-    assert_eq!(rt; wants(&image, None, RIP), Want::Bad(BadStep::Code));
-    let next = cpu(R, "c", 0x40_1001, RIP, None);
-    assert_eq!(rt; wants(&image, nop, RIP), Want::Private(next));
-    let around = cpu(R, "c", 1, u64::MAX, None);
-    assert_eq!(rt;
-        wants(&image, Some((Instr::Nop, 2)), u64::MAX),
-        Want::Private(around)
-    );
-    Ok(())
-}
-
-#[test]
-fn code_ends_with_its_segment(rt: HostRuntime) -> Result<(), Fail> {
-    let bytes = file(rt.alloc())?;
-    let image = load_image(rt.alloc(), &bytes)
-        .ok()
-        .ok_or("the file is loaded")?;
-    assert_eq!(rt; code_from(&image, 0x40_1000).len(), 0x1000);
-    assert!(rt; code_from(&image, 0x40_1005).starts_with(&[0xe9, 0xf6, 0x0e]));
-    assert_eq!(rt; code_from(&image, 0x40_1fff).len(), 1);
-    for outside in [0, 0x40_0fff, 0x40_2000, 0x40_3000] {
-        assert!(rt; code_from(&image, outside).is_empty(), "{outside}");
+    let code = Want::Bad(BadStep::Code);
+    let rows = [
+        // Doors, and places of the library's functions.
+        (0x7000_00ff_0000, Want::Door(Door::End)),
+        (0x7000_00ff_0010, Want::Door(Door::Call)),
+        (0x40_1f00, Want::Call(Function::Exit)),
+        (0x40_1f20, Want::Call(Function::Read)),
+        // BF 07 00 00 00, mov edi, 7; E9 F6 0E 00 00, jmp exit; 00 00, add byte [rax], al.
+        (0x40_1000, stepped(7, 0x40_1000, 0x40_1005)),
+        (0x40_1005, stepped(0, 0x40_1005, 0x40_1f00)),
+        (0x40_1ffe, load(0x8000, W8)),
+        // CC is no instruction of the subset.
+        (0x40_100a, code),
+        // 00 at the segment's last byte, whose ModRM byte would stand in the next segment.
+        (0x40_1fff, code),
+        // No segment, a segment that can't be run, and no segment again.
+        (0, code),
+        (0x40_0fff, code),
+        (0x40_2000, code),
+        (0x40_3000, code),
+        (u64::MAX, code),
+    ];
+    for (rip, want) in rows {
+        assert!(rt; wants(&image, rip) == want, "at {rip:#x}");
     }
     runs_what_is_spelled();
     refuses_what_is_not_spelled();
