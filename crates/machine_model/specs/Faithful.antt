@@ -1,12 +1,10 @@
 -- When the parts of a block do what its instructions do: from every state that matches a thread, also within an
 -- instruction, each part asks for what the thread wants, and the results match again.
-use Rattle.std.specs.Prelude.{◌≡◌, ℕ, ◌<◌, ◌^◌, Bool, true, false, if◌then◌else◌, List, [], ◌∷◌, ◌++◌, ◌-◌, take, length, slice_index, Option, Some, None}
-use Rattle.elf_image.specs.Layout.{ImageData}
+use Rattle.std.specs.Prelude.{◌≡◌, ℕ, ◌<◌, ◌^◌, Bool, true, false, if◌then◌else◌, List, [], ◌∷◌, ◌++◌, length, slice_index, Option, Some, None}
 use Rattle.guest_state.specs.declared.virtual_state.Virtual.{Virtual}
 use Rattle.ir_meaning.specs.Does.{does, answered, flags_of, flag_in}
 use Rattle.ir_meaning.specs.Live.{live_before_parts, kept_parts}
 use Rattle.ir_meaning.specs.Needs.{needed_before_parts}
-use Rattle.ir_syntax.specs.declared.block.Block.{Block}
 use Rattle.ir_syntax.specs.declared.block.Part.{Part}
 use Rattle.ir_syntax.specs.declared.cond.Flag.{Flag}
 use Rattle.ir_syntax.specs.declared.line.PartEnd.{PartEnd}
@@ -14,13 +12,12 @@ use Rattle.ir_syntax.specs.declared.line.PartEnd.TheVariants as ends
 use Rattle.ir_syntax.specs.Width.{bits_of}
 use Rattle.x86_model.specs.declared.cpu.Cpu.{Cpu}
 use Rattle.x86_model.specs.declared.want.Want.{Want}
-use Rattle.x86_model.specs.Want.{code_from, want}
 use Rattle.machine_model.specs.Placed.{Placed}
 use Rattle.machine_model.specs.LiftLines.{alone}
 use Rattle.machine_model.specs.LiftTable.{lifted}
 use Rattle.machine_model.specs.Follow.{Meets, Onward, having}
 
--- ---- the parts of instructions
+-- ---- the parts of a block
 
 -- the table's parts of instructions, one after another
 abbrev pub lifted_all : List Placed → List Part
@@ -115,21 +112,3 @@ abbrev pub AreFaithful : (Cpu → Want) → Option Part → List Placed → List
 AreFaithful wants under is [] = (under ≡ None) × (is ≡ [])
 AreFaithful wants under [] (p ∷ ps) = ⊥
 AreFaithful wants under (i ∷ is) (p ∷ ps) = PartFollows wants under i is p ps × AreFaithful wants (under_way p) (left_after p i is) ps
-
--- ---- blocks
-
--- the bytes of instructions that stand one after another, where the code from each of their addresses on is known
-abbrev pub bytes_of : (ℕ → List ℕ) → List Placed → List ℕ
-bytes_of code [] = []
-bytes_of code (p ∷ ps) = take (p.next - p.at) (code p.at) ++ bytes_of code ps
-
--- the lifted block of an address, by the instructions from there on: their bytes and their parts
-abbrev pub lifted_block : ImageData → ℕ → List Placed → Block
-lifted_block image a is = record { at = a; code = bytes_of (code_from image.segments) is; parts = block_parts is }
-
--- the block has the bytes of these instructions, and its parts belong to them and follow each thread; where there are
--- none, it is the block without bytes whose one part says so
-abbrev pub IsFaithful : ImageData → ℕ → List Placed → Block → Type 0
-IsFaithful image a [] b = b ≡ lifted_block image a []
-IsFaithful image a (p ∷ ps) b =
-    (b.at ≡ a) × (b.code ≡ bytes_of (code_from image.segments) (p ∷ ps)) × AreFaithful (want image) None (p ∷ ps) b.parts
