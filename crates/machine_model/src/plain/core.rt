@@ -1,0 +1,144 @@
+//! What the instructions of one thread work on.
+
+ghost use Rattle.std.specs.Prelude.{◌≡◌, OnOk, IfOk};
+ghost use Rattle.lib_table.specs.Steps.{HasLeft};
+ghost use Rattle.machine_model.specs.Plain.{IsAnswer};
+ghost use Rattle.machine_model.specs.State.{Core, no_core};
+ghost use Rattle.machine_model.specs.Step.{ask_of, born_core, called, probing, returned};
+
+use callbacks::Frame;
+use guest_map::top;
+use lib_table::{Ask, Asked, Called};
+use std::alloc::{AllocError, Global};
+use std::marker::Model;
+use x86_model::Cpu;
+
+/// What the instructions of one thread work on, and the searches of `bsearch` that it has under way, the innermost last.
+#[derive(Drop)]
+pub struct PlainCore {
+    cpu: Cpu,
+    frames: Vec<Frame>,
+}
+
+impl Model for PlainCore {
+    ghost use Rattle.machine_model.specs.Plain.{AreFrames};
+    ghost use Rattle.machine_model.specs.State.{Core};
+
+    ghost Value = { Core };
+
+    ghost view = { λ c. record { cpu = c.cpu; frames = c.frames.items } };
+
+    ghost invariant = { λ c. AreFrames c.frames.items };
+}
+
+// The registers at the birth of thread `u`, which calls `start` with `argument`.
+#[tactic(auto, unfolding(x86_model::specs::Thread::start))]
+fn born_cpu(u: u32, start: u64, argument: u64) -> Cpu
+    requires { u < 64 }
+    ensures { result ≡ (born_core u (Some (start, argument))).cpu }
+{
+    let mut cpu = Cpu::make();
+    cpu.regs[7] = argument;
+    cpu.regs[4] = top(u) - 8;
+    cpu.rip = start;
+    cpu
+}
+
+// The registers as a call of the library returns.
+fn returned_to(cpu: Cpu, rax: u64, rsp: u64, rip: u64) -> Cpu
+    ensures { result ≡ returned cpu rax rsp rip }
+{
+    let mut next = cpu;
+    next.regs[0] = rax;
+    next.regs[4] = rsp;
+    next.rip = rip;
+    next
+}
+
+// The registers as the comparator of a search is called with the element at `place`.
+fn probing_at(cpu: Cpu, frame: Frame, place: u64) -> Cpu
+    ensures { result ≡ probing cpu frame place }
+{
+    let mut next = cpu;
+    next.regs[7] = frame.key;
+    next.regs[6] = place;
+    next.regs[4] = frame.rsp.wrapping_sub(16);
+    next.rip = frame.compar;
+    next
+}
+
+impl PlainCore {
+    /// A thread with these registers and no search.
+    pub(crate) fn make(alloc: Global, cpu: Cpu) -> PlainCore
+        ensures { result ≡ record { cpu = cpu; frames = [] } }
+    {
+        PlainCore {
+            cpu,
+            frames: Vec::new(alloc),
+        }
+    }
+
+    /// The thread `u` at its birth, if it is born.
+    pub(crate) fn born(alloc: Global, u: u32, birth: Option<(u64, u64)>) -> PlainCore
+        requires { u < 64 }
+        ensures { result ≡ born_core u birth }
+    {
+        match birth {
+            Some((start, argument)) => PlainCore::make(alloc, born_cpu(u, start, argument)),
+            None => PlainCore::make(alloc, Cpu::make()),
+        }
+    }
+
+    /// The registers.
+    pub fn cpu(&self) -> Cpu
+        ensures { result ≡ self.now.cpu }
+    {
+        self.cpu
+    }
+
+    /// The registers become these.
+    pub(crate) fn set_cpu(&mut self, cpu: Cpu)
+        ensures { self.new ≡ record self.old { cpu = cpu } }
+    {
+        self.cpu = cpu;
+    }
+
+    /// What is asked of the library by a thread with these registers.
+    pub(crate) fn ask(&self, cpu: Cpu, what: Asked) -> Ask
+        ensures ask { result ≡ ask_of (record self.now { cpu = cpu }) what }
+        ensures left { HasLeft result.top }
+    {
+        Ask {
+            what,
+            args: [cpu.regs[7], cpu.regs[6], cpu.regs[2], cpu.regs[1], cpu.regs[8]],
+            rsp: cpu.regs[4],
+            rax: cpu.regs[0],
+            depth: self.frames.len() as u32,
+            top: self.frames.last().copied(),
+        }
+    }
+
+    /// The thread with these registers goes on after its request was carried out.
+    pub(crate) fn go_on(&mut self, cpu: Cpu, what: Asked, answer: Called) -> Result<(), AllocError>
+        requires { IsAnswer what (ask_of (record self.old { cpu = cpu }) what) answer }
+        ensures { OnOk result (self.new ≡ called (record self.old { cpu = cpu }) what answer) }
+    {
+        match answer {
+            Called::Back { rax, rsp, rip, popped } => {
+                self.cpu = returned_to(cpu, rax, rsp, rip);
+                if popped {
+                    let _search = self.frames.pop();
+                }
+            }
+            Called::Probe { frame, place } => {
+                self.cpu = probing_at(cpu, frame, place);
+                if let Asked::CallDoor = what {
+                    let _before = self.frames.pop();
+                }
+                self.frames.push(frame)?;
+            }
+            Called::Over => self.cpu = cpu,
+        }
+        Ok(())
+    }
+}
