@@ -21,6 +21,8 @@ mod mutexes;
 mod searches;
 mod step;
 mod streams;
+#[cfg(test)]
+mod tests;
 mod threads;
 mod words;
 

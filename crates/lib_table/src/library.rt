@@ -89,7 +89,8 @@ impl Library {
 
     /// Whether thread `t` lives: it was born, and didn't end.
     pub fn is_live(&self, t: u32) -> bool
-        ensures { result ≡ is_live self.now t }
+        ensures live { result ≡ is_live self.now t }
+        ensures numbers { length self.now.lives ≡ THREADS }
     {
         matches!(self.life(u64::from(t)), Life::Live { .. })
     }
