@@ -1,2 +1,5 @@
 pub mod CaseData
 pub mod First
+pub mod LiftLines
+pub mod LiftTable
+pub mod Follow
