@@ -1,0 +1,11 @@
+//! Lifting of instructions with operands in memory and of transfers.
+#![tactic(auto)]
+
+ghost use Rattle.std.specs.Prelude.{◌≡◌};
+
+/// One.
+pub fn one() -> u8
+    ensures { result ≡ 1 }
+{
+    1
+}
