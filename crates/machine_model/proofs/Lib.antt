@@ -6,3 +6,7 @@ pub mod Spelled
 pub mod Found
 pub mod Onward
 pub mod Runs
+pub mod LiftNumbers
+pub mod LiftWords
+pub mod LiftFollow
+pub mod LiftAlu

@@ -1,6 +1,6 @@
 -- The lifting table: the parts of each instruction, where `next` is the address of the next one. An instruction with
 -- an operand in memory loads it in a part of its own first. Then other operands are read, and results and flags follow.
-use Rattle.std.specs.Prelude.{ℕ, ◌+◌, ◌-◌, ◌^◌, ◌==◌, Bool, true, false, if◌then◌else◌, List, [], ◌∷◌, ◌++◌, Option, Some, None}
+use Rattle.std.specs.Prelude.{ℕ, ◌+◌, ◌-◌, ◌^◌, ◌==◌, Bool, true, if◌then◌else◌, List, [], ◌∷◌, ◌++◌, Option, Some, None}
 use Rattle.ir_syntax.specs.declared.block.Part.{Part}
 use Rattle.ir_syntax.specs.declared.cond.Cond.TheVariants.{E}
 use Rattle.ir_syntax.specs.declared.line.Family.TheVariants as family
@@ -16,7 +16,6 @@ use Rattle.x86_flags.specs.Shifts.{count_of}
 use Rattle.x86_forms.specs.declared.conditions.Cond.{Cond as Condition}
 use Rattle.x86_forms.specs.declared.operands.Width.{Width}
 use Rattle.x86_forms.specs.declared.operands.Width.TheVariants.{W8, W16, W32, W64}
-use Rattle.x86_forms.specs.declared.operands.Mem.{Mem}
 use Rattle.x86_forms.specs.declared.operands.Operand.{Operand}
 use Rattle.x86_forms.specs.declared.operands.Operand.TheVariants as operand
 use Rattle.x86_forms.specs.declared.instructions.AluOp.{AluOp}
@@ -29,7 +28,7 @@ use Rattle.x86_forms.specs.Widths.{bits_in}
 use Rattle.x86_model.specs.Operands.{target}
 use Rattle.x86_model.specs.Registers.{half}
 use Rattle.x86_model.specs.Results.{keeps_result}
-use Rattle.machine_model.specs.LiftLines.{ir_width, ir_cond, address_line, addressed, reads, loads, puts, end_at, part, alone, given_at, flag_lines, zero_lines, all_five, all_but_carry, overflow_and_carry, cleared, alu_family, one_family, one_flags, shift_family, shift_flags, high_family, product_family, lock_op, lock_one_op}
+use Rattle.machine_model.specs.LiftLines.{ir_width, ir_cond, address_line, addressed, reads, loads, puts, part, alone, given_at, flag_lines, zero_lines, all_five, all_but_carry, overflow_and_carry, cleared, alu_family, one_family, one_flags, shift_family, shift_flags, high_family, product_family, lock_op, lock_one_op}
 
 -- ---- arithmetic
 
