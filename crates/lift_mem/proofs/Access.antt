@@ -12,15 +12,17 @@ use Rattle.ir_meaning.specs.Does.{change_of}
 use Rattle.x86_forms.specs.declared.operands.Width.{Width}
 use Rattle.x86_forms.specs.declared.operands.Width.TheVariants.{W64}
 use Rattle.x86_forms.specs.declared.operands.Mem.{Mem}
+use Rattle.x86_forms.specs.declared.operands.Operand.{Operand}
 use Rattle.x86_forms.specs.declared.operands.Operand.TheVariants as operand
 use Rattle.x86_forms.specs.declared.instructions.Instr.{Instr}
+use Rattle.x86_forms.specs.Groups.{is_memory}
 use Rattle.x86_forms.specs.Widths.{bits_in}
 use Rattle.x86_model.specs.declared.cpu.Cpu.{Cpu}
 use Rattle.x86_model.specs.declared.want.Change.{Change}
 use Rattle.x86_model.specs.declared.want.Change.TheVariants as change
 use Rattle.x86_model.specs.declared.want.Want.{Want}
 use Rattle.x86_model.specs.declared.want.Want.TheVariants as want
-use Rattle.x86_model.specs.Accesses.{first_access}
+use Rattle.x86_model.specs.Accesses.{first_access, memory_in}
 use Rattle.x86_model.specs.Finishing.{finished}
 use Rattle.x86_model.specs.Operands.{address, value}
 use Rattle.x86_model.specs.Registers.{reg, low, get, loaded}
@@ -36,14 +38,6 @@ use Rattle.machine_model.proofs.LiftFollow.{Numbers}
 pub wants_access : (i : Instr) (next : ℕ) (s : Cpu) (access : Want) → s.mid ≡ None → first_access i next s ≡ Some access → want_of i next s ≡ access
 unfolding want_of
 wants_access i next s access m e = rw (e, m)
-
-pub wants_finish : (i : Instr) (next : ℕ) (s : Cpu) (x : ℕ) → want_of i next (having s x) ≡ finished i next (having s x)
-unfolding want_of
-wants_finish i next s x = refl
-
-pub wants_end : (i : Instr) (next : ℕ) (s : Cpu) → s.mid ≡ None → first_access i next s ≡ None → want_of i next s ≡ finished i next s
-unfolding want_of
-wants_end i next s m e = rw (e, m)
 
 -- the loaded value is what was answered
 pub having_loaded : (w : Width) (s : Cpu) (x : ℕ) → x < 2 ^ bits_in w → loaded (having s x) w ≡ x
@@ -84,3 +78,10 @@ pub loads_follows : (i : Instr) (next : ℕ) (w : Width) (m : Mem) (t : ℕ) (re
 loads_follows i next w m t rest s temps none numbers room access after =
     let inside : 0 < length temps = omega arith in
     load_follows i next w t (address s next m) (address_line next m ∷ []) rest s temps (slice_set temps 0 (address s next m)) none numbers (length-set temps 0 (address s next m) ∙ room) (address_is next m s.regs temps s.flags s refl) (get_or-set_same temps 0 (address s next m) 0 inside) access after
+
+-- the second of two operands is in memory
+pub second_in_memory : (o : Operand) (m : Mem) → is_memory o ≡ false → memory_in o (operand.Mem m) ≡ Some m
+second_in_memory (operand.Reg r) m e = refl
+second_in_memory (operand.High r) m e = refl
+second_in_memory (operand.Imm n) m e = refl
+second_in_memory (operand.Mem k) m e = let no : ⊥ = cc in absurd no
