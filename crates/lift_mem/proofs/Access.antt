@@ -22,7 +22,7 @@ use Rattle.x86_model.specs.declared.want.Change.{Change}
 use Rattle.x86_model.specs.declared.want.Change.TheVariants as change
 use Rattle.x86_model.specs.declared.want.Want.{Want}
 use Rattle.x86_model.specs.declared.want.Want.TheVariants as want
-use Rattle.x86_model.specs.Accesses.{first_access, memory_in}
+use Rattle.x86_model.specs.Accesses.{first_access, memory_in, memory_of}
 use Rattle.x86_model.specs.Finishing.{finished}
 use Rattle.x86_model.specs.Operands.{address, value}
 use Rattle.x86_model.specs.Registers.{reg, low, get, loaded}
@@ -38,6 +38,17 @@ use Rattle.machine_model.proofs.LiftFollow.{Numbers}
 pub wants_access : (i : Instr) (next : ℕ) (s : Cpu) (access : Want) → s.mid ≡ None → first_access i next s ≡ Some access → want_of i next s ≡ access
 unfolding want_of
 wants_access i next s access m e = rw (e, m)
+
+pub wants_end : (i : Instr) (next : ℕ) (s : Cpu) → s.mid ≡ None → first_access i next s ≡ None → want_of i next s ≡ finished i next s
+unfolding want_of
+wants_end i next s m e = rw (e, m)
+
+-- an operand that isn't in memory is nowhere
+pub outside_memory : (o : Operand) → is_memory o ≡ false → memory_of o ≡ None
+outside_memory (operand.Reg r) e = refl
+outside_memory (operand.High r) e = refl
+outside_memory (operand.Imm n) e = refl
+outside_memory (operand.Mem m) e = let no : ⊥ = cc in absurd no
 
 -- the loaded value is what was answered
 pub having_loaded : (w : Width) (s : Cpu) (x : ℕ) → x < 2 ^ bits_in w → loaded (having s x) w ≡ x
