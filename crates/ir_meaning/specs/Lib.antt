@@ -3,3 +3,4 @@ pub mod Family
 pub mod Does
 pub mod Ready
 pub mod Live
+pub mod Needs

@@ -16,6 +16,7 @@ use Rattle.x86_flags.specs.Shifts.{count_of}
 use Rattle.x86_forms.specs.declared.conditions.Cond.{Cond as Condition}
 use Rattle.x86_forms.specs.declared.operands.Width.{Width}
 use Rattle.x86_forms.specs.declared.operands.Width.TheVariants.{W8, W16, W32, W64}
+use Rattle.x86_forms.specs.declared.operands.Mem.{Mem}
 use Rattle.x86_forms.specs.declared.operands.Operand.{Operand}
 use Rattle.x86_forms.specs.declared.operands.Operand.TheVariants as operand
 use Rattle.x86_forms.specs.declared.instructions.AluOp.{AluOp}
@@ -76,23 +77,27 @@ mul_ops signed w =
 -- the operand that is no number comes first: with two operands it is the second one, as the first is the destination
 abbrev pub imul_parts : ℕ → Width → ℕ → Operand → Operand → List Part
 imul_parts next w dst a b =
-    loads next w a 1 ++ (loads next w b 2 ++ alone (reads w a 1 ++ (reads w b 2 ++ (Calc family.Mul (ir_width w) 3 2 (Some 1) ∷ (product_lines true w ++ (Put (ir_width w) dst 3 ∷ []))))) ends.Tick)
+    loads next w a 1 ++ (loads next w b 2 ++ given_at (both_read w a b ++ (Calc family.Mul (ir_width w) 3 2 (Some 1) ∷ product_lines true w)) w (operand.Reg dst) 3)
 
 -- ---- moves
 
-abbrev pub lea_ops : Width → ℕ → List Op
-lea_ops W64 dst = Put ir.W64 dst 0 ∷ []
-lea_ops W32 dst = Cut 64 ir.W32 1 0 ∷ Put ir.W32 dst 1 ∷ []
-lea_ops W16 dst = Cut 64 ir.W16 1 0 ∷ Put ir.W16 dst 1 ∷ []
-lea_ops W8 dst = Cut 64 ir.W8 1 0 ∷ Put ir.W8 dst 1 ∷ []
+-- the low bits of an address
+abbrev pub lea_parts : ℕ → Width → ℕ → Mem → List Part
+lea_parts next W64 dst mem = given_at (address_line next mem ∷ []) W64 (operand.Reg dst) 0
+lea_parts next W32 dst mem = given_at (address_line next mem ∷ Cut 64 ir.W32 1 0 ∷ []) W32 (operand.Reg dst) 1
+lea_parts next W16 dst mem = given_at (address_line next mem ∷ Cut 64 ir.W16 1 0 ∷ []) W16 (operand.Reg dst) 1
+lea_parts next W8 dst mem = given_at (address_line next mem ∷ Cut 64 ir.W8 1 0 ∷ []) W8 (operand.Reg dst) 1
 
--- rax gets its lower half with copies of the top bit above it
-abbrev pub widen_ops : Width → List Op
-widen_ops w = Get (ir_width (half w)) 1 0 ∷ Sext (bits_in (half w)) (ir_width w) 2 1 ∷ Put (ir_width w) 0 2 ∷ []
+-- an operand of fewer bits goes to a register with zeros, or with copies of its top bit, above it
+abbrev pub zero_extended_to : Width → Width → Operand → ℕ → List Part
+zero_extended_to from w src dst = given_at (reads from src 1 ++ (Zext (bits_in from) (ir_width w) 2 1 ∷ [])) w (operand.Reg dst) 2
+
+abbrev pub sign_extended_to : Width → Width → Operand → ℕ → List Part
+sign_extended_to from w src dst = given_at (reads from src 1 ++ (Sext (bits_in from) (ir_width w) 2 1 ∷ [])) w (operand.Reg dst) 2
 
 -- rdx gets copies of the top bit of rax
-abbrev pub spread_ops : Width → List Op
-spread_ops w = Get (ir_width w) 1 0 ∷ Const ir.W8 2 (bits_in w - 1) ∷ Calc family.Sar (ir_width w) 3 1 (Some 2) ∷ Put (ir_width w) 2 3 ∷ []
+abbrev pub spread_parts : Width → List Part
+spread_parts w = given_at (Get (ir_width w) 1 0 ∷ Const ir.W8 2 (bits_in w - 1) ∷ Calc family.Sar (ir_width w) 3 1 (Some 2) ∷ []) w (operand.Reg 2) 3
 
 -- with memory the exchange is one locked step; two registers get what the other had
 abbrev pub xchg_parts : ℕ → Width → Operand → Operand → List Part
@@ -101,8 +106,9 @@ xchg_parts next w (operand.Reg r) b = alone (both_read w (operand.Reg r) b ++ (p
 xchg_parts next w (operand.High r) b = alone (both_read w (operand.High r) b ++ (puts w (operand.High r) 2 ++ puts w b 1)) ends.Tick
 xchg_parts next w (operand.Imm n) b = alone (both_read w (operand.Imm n) b ++ (puts w (operand.Imm n) 2 ++ puts w b 1)) ends.Tick
 
-abbrev pub cmov_ops : Condition → Width → ℕ → List Op
-cmov_ops cc w dst = Get (ir_width w) 2 dst ∷ Cond 3 (ir_cond cc) ∷ Pick (ir_width w) 4 3 1 2 ∷ Put (ir_width w) dst 4 ∷ []
+-- a register gets the operand where the condition holds, and else what it had: at 32 bits its upper half is cleared either way
+abbrev pub cmov_parts : Condition → Width → ℕ → Operand → List Part
+cmov_parts cc w dst src = given_at (reads w src 1 ++ (Get (ir_width w) 2 dst ∷ Cond 3 (ir_cond cc) ∷ Pick (ir_width w) 4 3 1 2 ∷ [])) w (operand.Reg dst) 4
 
 -- ---- the stack
 
@@ -140,9 +146,9 @@ accumulator_ops W8 = Pick ir.W8 7 4 3 1 ∷ Put ir.W8 0 7 ∷ []
 abbrev pub lifted : Instr → ℕ → List Part
 lifted (Alu op w dst src) next = loads next w dst 1 ++ (loads next w src 2 ++ alu_parts op w dst src)
 lifted (Mov w dst src) next = loads next w src 1 ++ given_at (addressed next dst ++ reads w src 1) w dst 1
-lifted (Zx from w dst src) next = loads next from src 1 ++ alone (reads from src 1 ++ (Zext (bits_in from) (ir_width w) 2 1 ∷ Put (ir_width w) dst 2 ∷ [])) ends.Tick
-lifted (Sx from w dst src) next = loads next from src 1 ++ alone (reads from src 1 ++ (Sext (bits_in from) (ir_width w) 2 1 ∷ Put (ir_width w) dst 2 ∷ [])) ends.Tick
-lifted (Lea w dst mem) next = alone (address_line next mem ∷ lea_ops w dst) ends.Tick
+lifted (Zx from w dst src) next = loads next from src 1 ++ zero_extended_to from w src dst
+lifted (Sx from w dst src) next = loads next from src 1 ++ sign_extended_to from w src dst
+lifted (Lea w dst mem) next = lea_parts next w dst mem
 lifted (Push src) next = loads next W64 src 1 ++ alone (reads W64 src 1 ++ pushed) (ends.Store ir.W64 2 1)
 lifted (Pop dst) next = popped 4 ∷ alone (stack_at 4 8 ++ (Put ir.W64 dst 1 ∷ [])) ends.Tick
 lifted (One op w dst) next = loads next w dst 1 ++ one_parts op w dst
@@ -150,11 +156,11 @@ lifted (Mul signed w src) next = loads next w src 1 ++ alone (reads w src 1 ++ m
 lifted (Imul w dst a b) next = if is_immediate b then imul_parts next w dst a b else imul_parts next w dst b a
 lifted (Div signed w src) next = loads next w src 1 ++ alone (reads w src 1 ++ zero_lines all_five) (ends.Divide signed (ir_width w) 1)
 lifted (Shift op w dst count) next = loads next w dst 1 ++ shift_parts op w dst count
-lifted (Widen w) next = alone (widen_ops w) ends.Tick
-lifted (Spread w) next = alone (spread_ops w) ends.Tick
+lifted (Widen w) next = sign_extended_to (half w) w (operand.Reg 0) 0
+lifted (Spread w) next = spread_parts w
 lifted (Xchg w a b) next = xchg_parts next w a b
 lifted (Set cc dst) next = given_at (addressed next dst ++ (Cond 1 (ir_cond cc) ∷ Zext 1 ir.W8 2 1 ∷ [])) W8 dst 2
-lifted (Cmov cc w dst src) next = loads next w src 1 ++ alone (reads w src 1 ++ cmov_ops cc w dst) ends.Tick
+lifted (Cmov cc w dst src) next = loads next w src 1 ++ cmov_parts cc w dst src
 lifted (Jcc cc rel) next = alone [] (ends.Branch (ir_cond cc) (target next rel) next)
 lifted (Jmp rel) next = alone [] (ends.Go (Place (target next rel)))
 lifted (JmpTo src) next = loads next W64 src 1 ++ alone (reads W64 src 1) (ends.Go (Temp 1))
