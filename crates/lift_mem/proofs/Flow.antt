@@ -31,7 +31,7 @@ use Rattle.machine_model.proofs.LiftFollow.{Numbers, eight, lifts, resumed, no_l
 use Rattle.machine_model.proofs.LiftAlu.{WasLoaded, not_loaded}
 use Rattle.lift_mem.proofs.Access.{load_follows, loads_follows, wants_end, outside_memory, having_value, having_loaded}
 use Rattle.lift_mem.proofs.Endings.{storego_follows, go_follows, whole_register, put_numbers, sum_lt, stack_do}
-use Rattle.lift_mem.proofs.Ordered.{get_do}
+use Rattle.lift_mem.proofs.Operands.{get_do}
 
 -- ---- MFENCE
 

@@ -1,6 +1,9 @@
 pub mod Access
-pub mod Computing
-pub mod Ordered
 pub mod Endings
+pub mod Operands
+pub mod Computing
+pub mod Compared
+pub mod Ordered
+pub mod Moves
 pub mod Stack
 pub mod Flow

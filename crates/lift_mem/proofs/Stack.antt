@@ -27,7 +27,7 @@ use Rattle.machine_model.proofs.LiftFollow.{Numbers, eight, lifts, given_follows
 use Rattle.machine_model.proofs.LiftAlu.{WasLoaded, not_loaded}
 use Rattle.lift_mem.proofs.Access.{load_follows, loads_follows, wants_end, outside_memory, having_value, having_loaded}
 use Rattle.lift_mem.proofs.Endings.{store_follows, whole_register, put_numbers, sum_lt, stack_do}
-use Rattle.lift_mem.proofs.Ordered.{get_do}
+use Rattle.lift_mem.proofs.Operands.{get_do}
 
 -- ---- PUSH
 
