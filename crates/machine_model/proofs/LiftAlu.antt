@@ -1,40 +1,31 @@
 -- The last part of each instruction that computes on operands, which are registers, numbers, or memory that was loaded.
-use Rattle.std.proofs.Common.{◌≡◌, ℕ, suc, ◌+◌, ◌-◌, ◌*◌, ◌/◌, ◌<◌, ◌^◌, arith, ap, sym, ◌∙◌, refl, subst, Bool, true, false, List, [], ◌∷◌, ◌++◌, set, get_or, length, Option, Some, None}
-use Rattle.std.specs.Prelude.{slice_index, slice_set, ◌==◌, if◌then◌else◌}
-use Rattle.guest_state.specs.declared.virtual_state.Virtual.{Virtual}
-use Rattle.ir_meaning.specs.Does.{did, did_all, does}
-use Rattle.ir_meaning.specs.Family.{result_of, flags_after}
-use Rattle.ir_syntax.specs.declared.line.Op.{Op}
-use Rattle.ir_syntax.specs.declared.line.Op.TheVariants.{Get, Put, Const, Ea, Calc, Cond, Pick, Zext, Sext, Cut}
+use Rattle.std.proofs.Common.{◌≡◌, ℕ, ap, ◌∙◌, refl, true, false, List, ◌∷◌, ◌++◌, Some, None}
+use Rattle.std.specs.Prelude.{slice_index}
+use Rattle.ir_meaning.specs.Does.{did_all}
+use Rattle.ir_syntax.specs.declared.line.Op.TheVariants.{Calc}
 use Rattle.ir_syntax.specs.declared.line.PartEnd.TheVariants as ends
-use Rattle.x86_flags.specs.declared.flags.Flags.{Flags}
 use Rattle.x86_flags.specs.Outcome.{Outcome}
 use Rattle.x86_forms.specs.declared.operands.Width.{Width}
-use Rattle.x86_forms.specs.declared.operands.Mem.{Mem}
 use Rattle.x86_forms.specs.declared.operands.Operand.{Operand}
-use Rattle.x86_forms.specs.declared.operands.Operand.TheVariants as operand
 use Rattle.x86_forms.specs.declared.instructions.AluOp.{AluOp}
 use Rattle.x86_forms.specs.declared.instructions.AluOp.TheVariants as alu_op
 use Rattle.x86_forms.specs.declared.instructions.OneOp.{OneOp}
-use Rattle.x86_forms.specs.declared.instructions.ShiftOp.{ShiftOp}
 use Rattle.x86_forms.specs.declared.instructions.Instr.{Instr}
-use Rattle.x86_forms.specs.declared.instructions.Instr.TheVariants.{Alu, Mov, Zx, Sx, Lea, One, Mul, Imul, Div, Shift, Widen, Spread, Xchg, Set, Cmov, Nop, Pause, Endbr}
+use Rattle.x86_forms.specs.declared.instructions.Instr.TheVariants.{Alu, One}
 use Rattle.x86_forms.specs.Groups.{is_memory, touches_memory}
-use Rattle.x86_forms.specs.Limits.{OperandFits, PlaceFits, PairFits, is_immediate}
+use Rattle.x86_forms.specs.Limits.{OperandFits, PlaceFits, PairFits}
 use Rattle.x86_forms.specs.Widths.{bits_in}
 use Rattle.x86_model.specs.declared.cpu.Cpu.{Cpu}
-use Rattle.x86_model.specs.declared.want.Want.{Want}
-use Rattle.x86_model.specs.declared.want.Want.TheVariants as want
 use Rattle.x86_model.specs.Finishing.{finished, resulting, comparing, alu_want, one_want}
-use Rattle.x86_model.specs.Operands.{address, value, assigned, given}
-use Rattle.x86_model.specs.Registers.{reg, put, put_high, going_to, with_flags}
-use Rattle.x86_model.specs.Results.{alu, one, keeps_result}
+use Rattle.x86_model.specs.Operands.{value}
+use Rattle.x86_model.specs.Registers.{with_flags}
+use Rattle.x86_model.specs.Results.{alu, one}
 use Rattle.x86_model.specs.Want.{want_of}
-use Rattle.machine_model.specs.Follow.{Agrees, Follows, Onward, Lifts, having}
-use Rattle.machine_model.specs.LiftLines.{ir_width, reads, loads, puts, end_at, alone, given_at, flag_lines, all_five, alu_family, one_family, one_flags}
-use Rattle.machine_model.specs.LiftTable.{lifted, both_read, alu_lines, alu_parts, one_parts}
+use Rattle.machine_model.specs.Follow.{Follows, Onward, Lifts}
+use Rattle.machine_model.specs.LiftLines.{ir_width, reads, alone, given_at, flag_lines, all_five, alu_family, one_family, one_flags}
+use Rattle.machine_model.specs.LiftTable.{both_read, alu_lines, alu_parts, one_parts}
 use Rattle.machine_model.proofs.LiftWords.{virtual, after, value_lt, reads_do, flags_do, calc_do, alu_flags, alu_value, alu_fits, one_flags_are, one_value, one_fits}
-use Rattle.machine_model.proofs.LiftFollow.{Numbers, IsAt, is_at_same, private_follows, given_follows, eight, Core, lifts, quiet, no_loads, is_at_none, left_false, right_false}
+use Rattle.machine_model.proofs.LiftFollow.{Numbers, IsAt, is_at_same, private_follows, given_follows, eight, lifts, quiet, no_loads, is_at_none, left_false, right_false}
 
 -- an operand in memory was loaded to a temporary
 abbrev pub WasLoaded : Cpu → Width → Operand → ℕ → Type 0

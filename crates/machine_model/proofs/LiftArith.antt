@@ -1,26 +1,24 @@
 -- The last part of each instruction that shifts, multiplies or divides.
-use Rattle.std.proofs.Common.{◌≡◌, ℕ, zero, suc, ◌+◌, ◌-◌, ◌*◌, ◌/◌, ◌%◌, ◌<◌, ◌≤◌, ◌^◌, arith, ap, sym, ◌∙◌, refl, subst, Bool, true, false, List, [], ◌∷◌, ◌++◌, set, get_or, length, Option, Some, None, lit<, lit≤}
+use Rattle.std.proofs.Common.{◌≡◌, ℕ, zero, suc, ◌-◌, ◌/◌, ◌%◌, ◌<◌, ◌≤◌, ◌^◌, arith, ap, sym, ◌∙◌, refl, subst, Bool, true, false, List, [], ◌∷◌, ◌++◌, length, Option, Some, None, lit<, lit≤}
 use Rattle.std.proofs.Math.Nat.{mod-mod}
-use Rattle.std.proofs.lemmas.Nat.{mod_below, pow_pos}
+use Rattle.std.proofs.lemmas.Nat.{mod_below}
 use Rattle.std.proofs.lemmas.Bool.{leb-false}
 use Rattle.std.specs.Prelude.{slice_index, slice_set, ◌==◌, if◌then◌else◌, ◌||◌, nat_le, ⊤}
-use native.Mathlib.Nat.{mod-eq_of_lt}
 use Rattle.guest_state.specs.declared.virtual_state.Virtual.{Virtual}
 use Rattle.guest_state.specs.Virtual.{get_of, put_of}
-use Rattle.ir_meaning.specs.Does.{did, did_all, does, quotient_of, divided as divided_by}
-use Rattle.ir_meaning.specs.Family.{result_of, flags_after}
+use Rattle.ir_meaning.specs.Does.{did, did_all, quotient_of, divided as divided_by}
+use Rattle.ir_meaning.specs.Family.{result_of}
 use Rattle.ir_meaning.specs.Width.{state_width}
 use Rattle.ir_meaning.proofs.ResultLemmas.{low_bits_lt, result_fits}
 use Rattle.ir_syntax.specs.declared.block.Part.{Part}
 use Rattle.ir_syntax.specs.declared.line.Family.TheVariants as family
 use Rattle.ir_syntax.specs.declared.line.Op.{Op}
-use Rattle.ir_syntax.specs.declared.line.Op.TheVariants.{Get, Put, Const, Ea, Calc, Cond, Pick, Zext, Sext, Cut}
+use Rattle.ir_syntax.specs.declared.line.Op.TheVariants.{Get, Put, Const, Calc}
 use Rattle.ir_syntax.specs.declared.line.PartEnd.TheVariants as ends
 use Rattle.ir_syntax.specs.declared.width.Width.TheVariants as ir
-use Rattle.ir_syntax.specs.Width.{bits_of}
 use Rattle.x86_flags.specs.declared.flags.Flags.{Flags}
 use Rattle.x86_flags.specs.Outcome.{Outcome, unless_zero}
-use Rattle.x86_flags.specs.Products.{Product, umul_of, smul_of}
+use Rattle.x86_flags.specs.Products.{smul_of}
 use Rattle.x86_flags.specs.Quotients.{udiv_of, sdiv_of, joined}
 use Rattle.x86_flags.specs.Rotations.{rol_of, ror_of, rol_by, ror_by}
 use Rattle.x86_flags.specs.Shifts.{count_of, shl_of, shr_of, sar_of, shl_by, shr_by, sar_by}
@@ -33,23 +31,21 @@ use Rattle.x86_forms.specs.declared.instructions.ShiftOp.TheVariants as shift_op
 use Rattle.x86_forms.specs.declared.instructions.Instr.{Instr}
 use Rattle.x86_forms.specs.declared.instructions.Instr.TheVariants.{Mul, Imul, Div, Shift, Spread}
 use Rattle.x86_forms.specs.Groups.{is_memory, touches_memory}
-use Rattle.x86_forms.specs.Limits.{OperandFits, PlaceFits, PairFits, is_immediate, IsWide, ShiftFits}
+use Rattle.x86_forms.specs.Limits.{OperandFits, PlaceFits, PairFits, IsWide, ShiftFits}
 use Rattle.x86_forms.specs.Widths.{bits_in}
 use Rattle.x86_model.specs.declared.cpu.Cpu.{Cpu}
-use Rattle.x86_model.specs.declared.want.Want.{Want}
-use Rattle.x86_model.specs.declared.want.Want.TheVariants as want
 use Rattle.x86_model.specs.Finishing.{finished, resulting, mul_want, multiplied, imul_want, low_multiplied, div_want, divided, shift_want, count_in}
-use Rattle.x86_model.specs.Operands.{address, value, assigned, given}
-use Rattle.x86_model.specs.Registers.{reg, get, put, put_high, going_to, with_flags, written, spread, is_wide}
+use Rattle.x86_model.specs.Operands.{value, assigned, given}
+use Rattle.x86_model.specs.Registers.{reg, get, put, going_to, with_flags, spread, is_wide}
 use Rattle.x86_model.specs.Results.{product, quotient}
 use Rattle.x86_model.specs.Thread.{no_flags}
 use Rattle.x86_model.specs.Want.{want_of}
-use Rattle.machine_model.specs.Follow.{Agrees, Follows, Meets, Onward, Lifts, having}
-use Rattle.machine_model.specs.LiftLines.{ir_width, reads, loads, puts, alone, given_at, flag_lines, zero_lines, all_five, overflow_and_carry, shift_family, shift_flags, high_family, product_family}
-use Rattle.machine_model.specs.LiftTable.{lifted, both_read, count_line, counted_lines, shift_parts, product_lines, mul_ops, imul_parts, spread_parts}
-use Rattle.machine_model.proofs.LiftNumbers.{low_halves, smul_comm, sar_spread, bits_pos}
+use Rattle.machine_model.specs.Follow.{Agrees, Follows, Meets, Onward, Lifts}
+use Rattle.machine_model.specs.LiftLines.{ir_width, reads, puts, alone, given_at, flag_lines, zero_lines, all_five, overflow_and_carry, shift_family, shift_flags, high_family, product_family}
+use Rattle.machine_model.specs.LiftTable.{both_read, count_line, counted_lines, shift_parts, product_lines, mul_ops}
+use Rattle.machine_model.proofs.LiftNumbers.{low_halves, smul_comm, sar_spread}
 use Rattle.machine_model.proofs.LiftWords.{virtual, after, same_bits, same_low, same_written, value_lt, reads_do, puts_do, flags_do, calc_do, shifted, shift_flags_are, shift_still, shift_value, product_flags_are}
-use Rattle.machine_model.proofs.LiftFollow.{Numbers, IsAt, is_at_same, private_follows, given_follows, assigned_numbers, onward_agrees, goes_to, eight, Core, lifts, quiet, no_loads, is_at_none, left_false, right_false}
+use Rattle.machine_model.proofs.LiftFollow.{Numbers, IsAt, is_at_same, private_follows, given_follows, assigned_numbers, onward_agrees, goes_to, eight, lifts, quiet, no_loads, is_at_none, left_false, right_false}
 use Rattle.machine_model.proofs.LiftAlu.{WasLoaded, not_loaded, both_do}
 use Rattle.machine_model.proofs.LiftMoves.{register_fits}
 

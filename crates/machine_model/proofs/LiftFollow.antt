@@ -1,27 +1,26 @@
 -- How the parts of an instruction are seen to follow a thread.
-use Rattle.std.proofs.Common.{◌≡◌, ℕ, suc, ◌+◌, ◌<◌, ◌^◌, arith, ap, sym, ◌∙◌, refl, subst, Bool, true, false, List, [], ◌∷◌, ◌++◌, set, get_or, length, Option, Some, None, length-set, append-nil, ⊎_elim}
-use Rattle.std.specs.Prelude.{slice_index, slice_set, ◌||◌, ⊤}
+use Rattle.std.proofs.Common.{◌≡◌, ℕ, ◌<◌, ◌^◌, arith, ap, sym, ◌∙◌, refl, subst, Bool, true, false, List, [], ◌∷◌, ◌++◌, length, Option, Some, None, length-set}
+use Rattle.std.specs.Prelude.{slice_index, ◌||◌, ⊤}
 use Rattle.guest_state.specs.declared.virtual_state.Virtual.{Virtual}
-use Rattle.ir_meaning.specs.Does.{did, did_all, does, answered, flags_of}
+use Rattle.ir_meaning.specs.Does.{did_all, does, answered}
 use Rattle.ir_syntax.specs.declared.block.Part.{Part}
 use Rattle.ir_syntax.specs.declared.line.Op.{Op}
 use Rattle.ir_syntax.specs.declared.line.PartEnd.TheVariants as ends
-use Rattle.x86_flags.specs.declared.flags.Flags.{Flags}
 use Rattle.x86_forms.specs.declared.operands.Width.{Width}
 use Rattle.x86_forms.specs.declared.operands.Mem.{Mem}
 use Rattle.x86_forms.specs.declared.operands.Operand.{Operand}
 use Rattle.x86_forms.specs.declared.operands.Operand.TheVariants as operand
 use Rattle.x86_forms.specs.declared.instructions.Instr.{Instr}
-use Rattle.x86_forms.specs.declared.instructions.Instr.TheVariants.{Alu, Mov, Zx, Sx, Lea, Push, Pop, One, Mul, Imul, Div, Shift, Widen, Spread, Xchg, Set, Cmov, Jcc, Jmp, JmpTo, Call, CallTo, Ret, Leave, Nop, Pause, Endbr, Mfence, LockAlu, LockOne, Xadd, Cmpxchg}
+use Rattle.x86_forms.specs.declared.instructions.Instr.TheVariants.{Alu, Mov, Zx, Sx, Lea, One, Mul, Imul, Div, Shift, Widen, Spread, Xchg, Set, Cmov, Jcc, Jmp, JmpTo, Nop, Pause, Endbr}
 use Rattle.x86_forms.specs.Groups.{is_memory, touches_memory}
-use Rattle.x86_forms.specs.Limits.{OperandFits, PlaceFits, is_immediate}
+use Rattle.x86_forms.specs.Limits.{OperandFits, PlaceFits}
 use Rattle.x86_forms.specs.Widths.{bits_in}
 use Rattle.x86_model.specs.declared.cpu.Cpu.{Cpu}
 use Rattle.x86_model.specs.declared.want.Want.{Want}
 use Rattle.x86_model.specs.declared.want.Want.TheVariants as want
 use Rattle.x86_model.specs.Accesses.{first_access, memory_of, memory_in}
 use Rattle.x86_model.specs.Finishing.{finished}
-use Rattle.x86_model.specs.Operands.{address, value, assigned, given}
+use Rattle.x86_model.specs.Operands.{address, assigned, given}
 use Rattle.x86_model.specs.Registers.{reg, put, put_high, going_to}
 use Rattle.x86_model.specs.Want.{want_of, begun}
 use Rattle.x86_model.specs.declared.want.BadStep.TheVariants as bad_step
@@ -29,7 +28,7 @@ use Rattle.ir_syntax.specs.declared.request.BadKind.TheVariants as bad_kind
 use Rattle.ir_syntax.specs.declared.request.Request.{Request}
 use Rattle.ir_syntax.specs.declared.request.Request.TheVariants as ask
 use Rattle.machine_model.specs.Follow.{Agrees, Follows, Meets, Onward, Lifts, having}
-use Rattle.machine_model.specs.LiftLines.{ir_width, loads, puts, end_at, alone, given_at}
+use Rattle.machine_model.specs.LiftLines.{loads, puts, alone, given_at}
 use Rattle.machine_model.specs.LiftTable.{lifted}
 use Rattle.machine_model.proofs.LiftNumbers.{written_lt, written_high_lt, set_below}
 use Rattle.machine_model.proofs.LiftWords.{virtual, after, puts_do}

@@ -1,20 +1,16 @@
 -- The last part of each instruction that moves, widens or chooses.
-use Rattle.std.proofs.Common.{◌≡◌, ℕ, suc, ◌+◌, ◌-◌, ◌*◌, ◌/◌, ◌%◌, ◌<◌, ◌≤◌, ◌^◌, arith, ap, sym, ◌∙◌, refl, subst, Bool, true, false, List, [], ◌∷◌, ◌++◌, set, get_or, length, Option, Some, None, lit<, lit≤}
+use Rattle.std.proofs.Common.{◌≡◌, ℕ, ◌%◌, ◌<◌, ◌≤◌, ◌^◌, arith, ap, sym, ◌∙◌, refl, subst, Bool, true, false, List, [], ◌∷◌, ◌++◌, lit<, lit≤}
 use Rattle.std.proofs.Math.Nat.{mod-mod}
 use Rattle.std.proofs.lemmas.Nat.{mod_below, pow_pos}
-use Rattle.std.specs.Prelude.{slice_index, slice_set, ◌==◌, if◌then◌else◌, ◌||◌}
+use Rattle.std.specs.Prelude.{◌==◌, if◌then◌else◌}
 use Rattle.std.specs.Int.{from_bool}
 use native.Mathlib.Nat.{mod-eq_of_lt}
-use Rattle.guest_state.specs.declared.virtual_state.Virtual.{Virtual}
-use Rattle.ir_meaning.specs.Does.{did, did_all, does, holds_now}
+use Rattle.ir_meaning.specs.Does.{did_all}
 use Rattle.ir_meaning.proofs.ResultLemmas.{low_bits_lt}
 use Rattle.ir_syntax.specs.declared.line.Op.{Op}
-use Rattle.ir_syntax.specs.declared.line.Op.TheVariants.{Get, Put, Const, Ea, Calc, Cond, Pick, Zext, Sext, Cut}
+use Rattle.ir_syntax.specs.declared.line.Op.TheVariants.{Get, Cond, Pick, Zext, Sext, Cut}
 use Rattle.ir_syntax.specs.declared.line.PartEnd.TheVariants as ends
 use Rattle.ir_syntax.specs.declared.width.Width.TheVariants as ir
-use Rattle.ir_syntax.specs.Cond.{test}
-use Rattle.ir_syntax.specs.Width.{bits_of}
-use Rattle.x86_flags.specs.declared.flags.Flags.{Flags}
 use Rattle.x86_flags.specs.Numbers.{signed, low_bits}
 use Rattle.x86_forms.specs.declared.conditions.Cond.{Cond as Condition}
 use Rattle.x86_forms.specs.declared.operands.Width.{Width}
@@ -25,22 +21,20 @@ use Rattle.x86_forms.specs.declared.operands.Operand.TheVariants as operand
 use Rattle.x86_forms.specs.declared.instructions.Instr.{Instr}
 use Rattle.x86_forms.specs.declared.instructions.Instr.TheVariants.{Mov, Zx, Sx, Lea, Widen, Xchg, Set, Cmov, Nop, Pause, Endbr}
 use Rattle.x86_forms.specs.Groups.{is_memory, touches_memory}
-use Rattle.x86_forms.specs.Limits.{OperandFits, PlaceFits, PairFits, RegisterFits, is_immediate, Widens, IsWide, IsOver8, MemFits}
+use Rattle.x86_forms.specs.Limits.{OperandFits, PlaceFits, PairFits, RegisterFits, Widens, IsWide}
 use Rattle.x86_forms.specs.Widths.{bits_in}
 use Rattle.x86_model.specs.declared.cpu.Cpu.{Cpu}
-use Rattle.x86_model.specs.declared.want.Want.{Want}
-use Rattle.x86_model.specs.declared.want.Want.TheVariants as want
 use Rattle.x86_model.specs.Finishing.{finished, cmov_want, exchanged}
 use Rattle.x86_model.specs.Operands.{address, value, assigned, given}
-use Rattle.x86_model.specs.Registers.{reg, get, put, put_high, going_to, written, sign_extended, half}
+use Rattle.x86_model.specs.Registers.{put, written, sign_extended, half}
 use Rattle.x86_model.specs.Results.{holds}
 use Rattle.x86_model.specs.Want.{want_of}
-use Rattle.machine_model.specs.Follow.{Agrees, Follows, Onward, Lifts, having}
-use Rattle.machine_model.specs.LiftLines.{ir_width, ir_cond, address_line, addressed, reads, loads, puts, end_at, alone, given_at}
+use Rattle.machine_model.specs.Follow.{Follows, Onward, Lifts}
+use Rattle.machine_model.specs.LiftLines.{ir_width, ir_cond, address_line, addressed, reads, puts, alone, given_at}
 use Rattle.machine_model.specs.LiftTable.{lifted, both_read, lea_parts, zero_extended_to, sign_extended_to, cmov_parts, xchg_parts}
 use Rattle.machine_model.proofs.LiftNumbers.{extended, bits_pos}
 use Rattle.machine_model.proofs.LiftWords.{virtual, after, same_bits, same_test, value_lt, reads_do, puts_do, address_is}
-use Rattle.machine_model.proofs.LiftFollow.{Numbers, IsAt, is_at_same, private_follows, given_follows, assigned_numbers, assigned_flags, eight, Core, lifts, quiet, no_loads, is_at_none, left_false, right_false}
+use Rattle.machine_model.proofs.LiftFollow.{Numbers, IsAt, private_follows, given_follows, assigned_numbers, assigned_flags, eight, lifts, quiet, no_loads, left_false, right_false}
 use Rattle.machine_model.proofs.LiftAlu.{WasLoaded, not_loaded, both_do}
 
 -- a register is written

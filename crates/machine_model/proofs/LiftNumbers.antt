@@ -1,8 +1,8 @@
 -- Numbers of w bits as instructions and lines compute them.
-use Rattle.std.proofs.Common.{◌≡◌, ℕ, zero, suc, ◌+◌, ◌-◌, ◌*◌, ◌/◌, ◌%◌, ◌^◌, ◌<◌, ◌≤◌, arith, ap, sym, ◌∙◌, refl, subst, ℤ, pos, negsuc, ⊎_elim, Bool, true, false, lit<, lit≤, List, set, get_or, length}
+use Rattle.std.proofs.Common.{◌≡◌, ℕ, zero, suc, ◌+◌, ◌-◌, ◌*◌, ◌/◌, ◌%◌, ◌^◌, ◌<◌, ◌≤◌, arith, ap, sym, ◌∙◌, ℤ, pos, negsuc, ⊎_elim, lit<, lit≤, List, set, get_or, length}
 use Rattle.std.proofs.Math.IntN.{*ℤ_comm, neg_ℤ}
-use Rattle.std.proofs.Math.Nat.{add-mul-mod_self_right, add-mod-mod, mod-mod}
-use Rattle.std.proofs.lemmas.Bool.{cases_lt, lt-ltb, le-ltb, cases_eq, eqb-true, ne_eqb}
+use Rattle.std.proofs.Math.Nat.{add-mul-mod_self_right, add-mod-mod}
+use Rattle.std.proofs.lemmas.Bool.{cases_lt, lt-ltb, le-ltb, cases_eq}
 use Rattle.std.proofs.lemmas.Int.{ints}
 use Rattle.std.proofs.lemmas.Grind.{get_or-set_at}
 use Rattle.std.proofs.lemmas.List.{get_or-set_other, set_past}

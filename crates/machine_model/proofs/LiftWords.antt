@@ -1,14 +1,14 @@
 -- What the lines of the lifting table do, in the words of the thread's instructions.
-use Rattle.std.proofs.Common.{◌≡◌, ℕ, suc, ◌+◌, ◌-◌, ◌*◌, ◌/◌, ◌%◌, ◌^◌, ◌<◌, ◌≤◌, arith, ap, sym, ◌∙◌, refl, subst, Bool, true, false, lit<, lit≤, List, [], ◌∷◌, ◌++◌, set, get_or, length, Option, Some, None, length-set, ℤ}
+use Rattle.std.proofs.Common.{◌≡◌, ℕ, ◌+◌, ◌*◌, ◌/◌, ◌%◌, ◌^◌, ◌<◌, ap, sym, ◌∙◌, refl, subst, Bool, true, false, List, [], ◌∷◌, ◌++◌, Option, Some, None, ℤ}
 use Rattle.std.proofs.lemmas.List.{set-get_or}
 use Rattle.std.specs.Prelude.{slice_index, slice_set, if◌then◌else◌, ◌==◌}
-use Rattle.std.specs.Int.{from_bool, w64, cast_unsigned}
+use Rattle.std.specs.Int.{w64, cast_unsigned}
 use native.Mathlib.Nat.{mod-eq_of_lt}
 use Rattle.guest_state.specs.declared.virtual_state.Virtual.{Virtual}
 use Rattle.guest_state.specs.Virtual.{get_of, get_high_of, put_of, put_high_of}
 use Rattle.guest_state.specs.Register.{low_of, high_of, written as state_written, written_high as state_written_high}
 use Rattle.guest_state.specs.Width.{bits}
-use Rattle.ir_meaning.specs.Does.{did, did_all, flags_of, flag_in, second, holds_now, register_or_zero}
+use Rattle.ir_meaning.specs.Does.{did, did_all, second, holds_now, register_or_zero}
 use Rattle.ir_meaning.specs.Family.{flags_after, result_of}
 use Rattle.ir_meaning.specs.Width.{state_width}
 use Rattle.ir_syntax.specs.declared.cond.Flag.{Flag}
@@ -43,14 +43,14 @@ use Rattle.x86_forms.specs.declared.operands.Mem.{Mem}
 use Rattle.x86_forms.specs.declared.operands.Operand.{Operand}
 use Rattle.x86_forms.specs.declared.operands.Operand.TheVariants as operand
 use Rattle.x86_forms.specs.Groups.{is_memory}
-use Rattle.x86_forms.specs.Limits.{OperandFits, PlaceFits, is_immediate}
+use Rattle.x86_forms.specs.Limits.{OperandFits}
 use Rattle.x86_forms.specs.Widths.{bits_in}
 use Rattle.x86_model.specs.declared.cpu.Cpu.{Cpu}
 use Rattle.x86_model.specs.Operands.{address, base_of, index_of, target, value, assigned}
 use Rattle.x86_model.specs.Registers.{reg, low, high_byte, get, put, put_high, written, written_high, loaded}
 use Rattle.x86_model.specs.Results.{holds, alu, one, product}
 use Rattle.machine_model.specs.LiftLines.{ir_width, ir_cond, base_register, number_in, address_line, reads, puts, flag_lines, all_five, overflow_and_carry, alu_family, one_family, one_flags, shift_family, shift_flags, product_family}
-use Rattle.machine_model.proofs.LiftNumbers.{low_lt, low_same, high_byte_lt, written_lt, written_high_lt, set_below, rebased}
+use Rattle.machine_model.proofs.LiftNumbers.{low_lt, low_same, high_byte_lt, rebased}
 
 -- registers, temporaries and flags as one state
 abbrev pub virtual : List ℕ → List ℕ → Flags → Virtual

@@ -3,3 +3,5 @@ pub mod First
 pub mod LiftLines
 pub mod LiftTable
 pub mod Follow
+pub mod Placed
+pub mod Faithful
