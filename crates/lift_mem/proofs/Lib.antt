@@ -7,3 +7,4 @@ pub mod Ordered
 pub mod Moves
 pub mod Stack
 pub mod Flow
+pub mod Groups

@@ -1,11 +1,4 @@
 //! Lifting of instructions with operands in memory and of transfers.
 #![tactic(auto)]
 
-ghost use Rattle.std.specs.Prelude.{◌≡◌};
-
-/// One.
-pub fn one() -> u8
-    ensures { result ≡ 1 }
-{
-    1
-}
+pub mod laws;
