@@ -4,15 +4,16 @@ use Rattle.std.specs.Prelude.{if◌then◌else◌}
 use Rattle.x86_forms.specs.declared.operands.Operand.TheVariants as operand
 use Rattle.x86_forms.specs.declared.instructions.Group.{Group}
 use Rattle.x86_forms.specs.declared.instructions.Group.TheVariants.{Memory, Private, Transfer}
+use Rattle.x86_forms.specs.declared.instructions.Instr.{Instr}
 use Rattle.x86_forms.specs.declared.instructions.Instr.TheVariants.{Alu, Mov, Zx, Sx, Push, Pop, One, Mul, Imul, Div, Shift, Xchg, Set, Cmov, Jcc, Jmp, JmpTo, Call, CallTo, Ret, Leave, Mfence, LockAlu, LockOne, Xadd, Cmpxchg}
-use Rattle.x86_forms.specs.Groups.{touches_memory}
-use Rattle.lift_mem.specs.Laws.{AluLifts, OneLifts, ShiftLifts, MulLifts, ImulLifts, DivLifts, MovLifts, ZxLifts, SxLifts, SetLifts, CmovLifts, PushLifts, PopLifts, LeaveLifts, XchgLifts, LockAluLifts, LockOneLifts, XaddLifts, CmpxchgLifts, MfenceLifts, JccLifts, JmpLifts, JmpToLifts, CallLifts, CallToLifts, RetLifts, MemoryLifts, FlowLifts}
+use Rattle.x86_forms.specs.Groups.{is_transfer, touches_memory, group_of}
+use Rattle.lift_mem.proofs.Statements.{AluLifts, OneLifts, ShiftLifts, MulLifts, ImulLifts, DivLifts, MovLifts, ZxLifts, SxLifts, SetLifts, CmovLifts, PushLifts, PopLifts, LeaveLifts, XchgLifts, LockAluLifts, LockOneLifts, XaddLifts, CmpxchgLifts, MfenceLifts, JccLifts, JmpLifts, JmpToLifts, CallLifts, CallToLifts, RetLifts, MemoryLifts, FlowLifts}
 use Rattle.lift_mem.proofs.Computing.{alu_law, one_in_memory, shift_in_memory, mul_from_memory, imul_law, div_by_memory}
 use Rattle.lift_mem.proofs.Moves.{mov_to_memory, mov_from_memory, zx_law, sx_law, set_law, cmov_law}
 use Rattle.lift_mem.proofs.Ordered.{lock_alu_law, lock_one_law, xadd_law, exchange_law}
 use Rattle.lift_mem.proofs.Compared.{cmpxchg_law}
-use Rattle.lift_mem.proofs.Stack.{push_law, pop_law, leave_law}
-use Rattle.lift_mem.proofs.Flow.{mfence_law, jcc_law, jmp_law, jmp_to_law, call_law, call_to_law, ret_law}
+use Rattle.lift_mem.proofs.Pushed.{push_law, pop_law, leave_law}
+use Rattle.lift_mem.proofs.Transfers.{mfence_law, jcc_law, jmp_law, jmp_to_law, call_law, call_to_law, ret_law}
 
 -- ---- operands in memory
 
@@ -115,23 +116,28 @@ ret_lifts extra next fit = ret_law extra next
 
 -- ---- all of them
 
-some_memory : (t : Bool) → (if t then Memory else Private) ≡ Memory → t ≡ true
-some_memory true e = refl
-some_memory false e = let no : ⊥ = cc in absurd no
+some_memory_of : (t u : Bool) → (if t then Transfer else if u then Memory else Private) ≡ Memory → u ≡ true
+some_memory_of true u e = let no : ⊥ = cc in absurd no
+some_memory_of false true e = refl
+some_memory_of false false e = let no : ⊥ = cc in absurd no
+
+-- an instruction of the group that is neither locked nor on the stack has an operand in memory
+pub some_of : (i : Instr) → group_of i ≡ Memory → touches_memory i ≡ true
+some_of i e = some_memory_of (is_transfer i) (touches_memory i) e
 
 pub memory_lifts : MemoryLifts
-memory_lifts (Alu op w dst src) next fit is = alu_lifts op w dst src next fit (some_memory (touches_memory (Alu op w dst src)) is)
-memory_lifts (One op w dst) next fit is = one_lifts op w dst next fit (some_memory (touches_memory (One op w dst)) is)
-memory_lifts (Shift op w dst count) next fit is = shift_lifts op w dst count next fit (some_memory (touches_memory (Shift op w dst count)) is)
-memory_lifts (Mul signed w src) next fit is = mul_lifts signed w src next fit (some_memory (touches_memory (Mul signed w src)) is)
-memory_lifts (Imul w dst a b) next fit is = imul_lifts w dst a b next fit (some_memory (touches_memory (Imul w dst a b)) is)
-memory_lifts (Div signed w src) next fit is = div_lifts signed w src next fit (some_memory (touches_memory (Div signed w src)) is)
-memory_lifts (Mov w dst src) next fit is = mov_lifts w dst src next fit (some_memory (touches_memory (Mov w dst src)) is)
-memory_lifts (Zx from w dst src) next fit is = zx_lifts from w dst src next fit (some_memory (touches_memory (Zx from w dst src)) is)
-memory_lifts (Sx from w dst src) next fit is = sx_lifts from w dst src next fit (some_memory (touches_memory (Sx from w dst src)) is)
-memory_lifts (Set kind dst) next fit is = set_lifts kind dst next fit (some_memory (touches_memory (Set kind dst)) is)
-memory_lifts (Cmov kind w dst src) next fit is = cmov_lifts kind w dst src next fit (some_memory (touches_memory (Cmov kind w dst src)) is)
-memory_lifts (Xchg w a b) next fit is = xchg_lifts w a b next fit (some_memory (touches_memory (Xchg w a b)) is)
+memory_lifts (Alu op w dst src) next fit is = alu_lifts op w dst src next fit (some_of (Alu op w dst src) is)
+memory_lifts (One op w dst) next fit is = one_lifts op w dst next fit (some_of (One op w dst) is)
+memory_lifts (Shift op w dst count) next fit is = shift_lifts op w dst count next fit (some_of (Shift op w dst count) is)
+memory_lifts (Mul signed w src) next fit is = mul_lifts signed w src next fit (some_of (Mul signed w src) is)
+memory_lifts (Imul w dst a b) next fit is = imul_lifts w dst a b next fit (some_of (Imul w dst a b) is)
+memory_lifts (Div signed w src) next fit is = div_lifts signed w src next fit (some_of (Div signed w src) is)
+memory_lifts (Mov w dst src) next fit is = mov_lifts w dst src next fit (some_of (Mov w dst src) is)
+memory_lifts (Zx from w dst src) next fit is = zx_lifts from w dst src next fit (some_of (Zx from w dst src) is)
+memory_lifts (Sx from w dst src) next fit is = sx_lifts from w dst src next fit (some_of (Sx from w dst src) is)
+memory_lifts (Set kind dst) next fit is = set_lifts kind dst next fit (some_of (Set kind dst) is)
+memory_lifts (Cmov kind w dst src) next fit is = cmov_lifts kind w dst src next fit (some_of (Cmov kind w dst src) is)
+memory_lifts (Xchg w a b) next fit is = xchg_lifts w a b next fit (some_of (Xchg w a b) is)
 memory_lifts (Push src) next fit is = push_lifts src next fit
 memory_lifts (Pop dst) next fit is = pop_lifts dst next fit
 memory_lifts Leave next fit is = leave_lifts next fit

@@ -5,6 +5,7 @@ pub mod Computing
 pub mod Compared
 pub mod Ordered
 pub mod Moves
-pub mod Stack
-pub mod Flow
+pub mod Pushed
+pub mod Transfers
+pub mod Statements
 pub mod Groups

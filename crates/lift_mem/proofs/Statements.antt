@@ -1,5 +1,4 @@
--- What the lifting table keeps of instructions that read or write memory and of transfers: the parts of each one follow
--- the thread and agree with it again (`Lifts`), whatever a load or a locked step answers.
+-- What the laws say, each for the instructions of one kind.
 use Rattle.std.specs.Prelude.{◌≡◌, ℕ, ℤ, Bool, true, Option}
 use Rattle.x86_forms.specs.declared.conditions.Cond.{Cond}
 use Rattle.x86_forms.specs.declared.operands.Width.{Width}
