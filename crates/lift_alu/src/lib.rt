@@ -18,4 +18,5 @@ pub mod moves;
 mod private;
 pub mod words;
 
+pub use laws::private_lifts;
 pub use private::lift_private;
