@@ -1,6 +1,7 @@
 -- A library's row leaves the life of every live thread but its own, and what it answers fits what was asked.
 use Rattle.std.proofs.Common.{◌≡◌, ◌≢◌, ℕ, ◌+◌, ◌-◌, ◌<◌, Bool, true, false, cond, not, Option, Some, None, refl, sym, ap, ◌∙◌, subst, arith, slice_index_or, length-set, ◌==◌, nat_lt, nat_le, length}
 use Rattle.std.specs.Prelude.{⊤, IsSome, ℤ, pos, negsuc, zero, suc}
+use Rattle.std.specs.Option.{option_map}
 use Rattle.std.proofs.lemmas.Bool.Decides.{nat_tests}
 use Rattle.std.proofs.lemmas.List.{get_or-set_other}
 use Rattle.std.proofs.lemmas.List.Quantifiers.{position-Some}
@@ -20,7 +21,7 @@ use Rattle.lib_table.specs.declared.life.Life.{Life}
 use Rattle.lib_table.specs.declared.life.Life.TheVariants.{Unborn, Live, Ended, Joined}
 use Rattle.lib_table.specs.Library.{LibraryData, life_at, with_life, is_live, is_running, is_unborn, next_number, stack_top}
 use Rattle.lib_table.specs.Outcome.{RowResult, Done, Waits, Bad, a1, a2, a3, unless_denied, unwritable, unreadable, word_at}
-use Rattle.lib_table.specs.Threads.{create, born, join, joining, joined, self_id, end_door, ended}
+use Rattle.lib_table.specs.Threads.{create, born_if, join, joining, joined, self_id, end_door, ended}
 use Rattle.lib_table.specs.Mutexes.{init, lock, trylock, unlock, destroy, taken}
 use Rattle.lib_table.specs.Searches.{comparison, new_frame, search_for, searching, searching_on, call_door, compared}
 use Rattle.lib_table.specs.Streams.{read, write, given, appended}
@@ -76,7 +77,7 @@ module _ (l : LibraryData) (t u : ℕ) (what : Asked) (ask : Ask) where
   unborn_dead (Ended v) e = refl
   unborn_dead Joined e = refl
 
-  born_kept : (m : Memory) (back : ℕ) (o : Option ℕ) → next_number l ≡ o → Kept l t u what ask (born l m ask back o)
+  born_kept : (m : Memory) (back : ℕ) (o : Option ℕ) → next_number l ≡ o → Kept l t u what ask (born_if l m ask back (option_map (λ v. (v, with_life l v (Live (a3 ask) (a4 ask)))) o))
   born_kept m back None e = same _ _ _ refl tt
   born_kept m back (Some v) e =
       denied_kept (unwritable m (a1 ask) 8) _ (denied_kept (unwritable m (stack_top v - 8) 8) _
@@ -84,10 +85,10 @@ module _ (l : LibraryData) (t u : ℕ) (what : Asked) (ask : Ask) where
 
   create_kept : (m : Memory) (back : ℕ) → Kept l t u what ask (create l m ask back)
   unfolding create
-  create_kept m back = if_kept (a2 ask == 0) _ _ (born_kept m back (next_number l) refl) (same _ _ _ refl tt)
+  create_kept m back = if_kept (not (a2 ask == 0)) _ _ (same _ _ _ refl tt) (born_kept m back (next_number l) refl)
 
   joined_kept : (m : Memory) (back v value : ℕ) → is_running (life_at l v) ≡ false → Kept l t u what ask (joined l m ask back v value)
-  joined_kept m back v value dead = if_kept (a2 ask == 0) _ _ (set_other v Joined _ _ dead tt) (denied_kept (unwritable m (a2 ask) 8) _ (set_other v Joined _ _ dead tt))
+  joined_kept m back v value dead = if_kept (not (a2 ask == 0)) _ _ (denied_kept (unwritable m (a2 ask) 8) _ (set_other v Joined _ _ dead tt)) (set_other v Joined _ _ dead tt)
 
   joining_kept : (m : Memory) (back v : ℕ) (life : Life) → life_at l v ≡ life → Kept l t u what ask (joining l m t ask back v life)
   joining_kept m back v Unborn e = same _ _ _ refl tt
@@ -105,7 +106,7 @@ module _ (l : LibraryData) (t u : ℕ) (what : Asked) (ask : Ask) where
 
   init_kept : (m : Memory) (back : ℕ) → Kept l t u what ask (init l m ask back)
   unfolding init
-  init_kept m back = if_kept _ _ _ (if_kept _ _ _ (same _ _ _ refl tt) (same _ _ _ refl tt)) (same _ _ _ refl tt)
+  init_kept m back = if_kept _ _ _ (same _ _ _ refl tt) (if_kept _ _ _ (same _ _ _ refl tt) (same _ _ _ refl tt))
 
   taken_kept : (m : Memory) (back : ℕ) → Kept l t u what ask (taken l m t ask back)
   taken_kept m back = if_kept _ _ _ (same _ _ _ refl tt) (same _ _ _ refl tt)
@@ -164,7 +165,7 @@ module _ (l : LibraryData) (t u : ℕ) (what : Asked) (ask : Ask) where
 
   read_kept : (m : Memory) (back : ℕ) → Kept l t u what ask (read l m ask back)
   unfolding read
-  read_kept m back = if_kept _ _ _ (denied_kept _ _ (same _ _ _ refl tt)) (same _ _ _ refl tt)
+  read_kept m back = if_kept _ _ _ (same _ _ _ refl tt) (denied_kept _ _ (same _ _ _ refl tt))
 
   output_same : (b : Bool) (x y : LibraryData) → x.lives ≡ l.lives → y.lives ≡ l.lives → (cond b x y).lives ≡ l.lives
   output_same true x y p q = p
@@ -172,7 +173,7 @@ module _ (l : LibraryData) (t u : ℕ) (what : Asked) (ask : Ask) where
 
   write_kept : (m : Memory) (back : ℕ) → Kept l t u what ask (write l m ask back)
   unfolding write
-  write_kept m back = if_kept _ _ _ (if_kept _ _ _ (same _ _ _ refl tt) (denied_kept _ _ (same _ _ _ (output_same _ _ _ refl refl) tt))) (same _ _ _ refl tt)
+  write_kept m back = if_kept _ _ _ (same _ _ _ refl tt) (if_kept _ _ _ (same _ _ _ refl tt) (denied_kept _ _ (same _ _ _ (output_same _ _ _ refl refl) tt)))
 
   call_kept : (f : Function) (m : Memory) → (ask.depth < 16 → HasRoom what ask) → Kept l t u what ask (call_row f l m t ask)
   unfolding self_id
