@@ -1,6 +1,6 @@
 -- A library's row leaves the life of every live thread but its own, and what it answers fits what was asked.
 use Rattle.std.proofs.Common.{◌≡◌, ◌≢◌, ℕ, ◌+◌, ◌-◌, ◌<◌, Bool, true, false, cond, not, Option, Some, None, refl, sym, ap, ◌∙◌, subst, arith, slice_index_or, length-set, ◌==◌, nat_lt, nat_le, length}
-use Rattle.std.specs.Prelude.{⊤, IsSome, ℤ, pos, negsuc, zero, suc}
+use Rattle.std.specs.Prelude.{◌||◌, ⊤, IsSome, ℤ, pos, negsuc, zero, suc}
 use Rattle.std.specs.Option.{option_map}
 use Rattle.std.proofs.lemmas.Bool.Decides.{nat_tests}
 use Rattle.std.proofs.lemmas.List.{get_or-set_other}
@@ -20,7 +20,7 @@ use Rattle.lib_table.specs.declared.ask.Asked.TheVariants.{Lib, EndDoor, CallDoo
 use Rattle.lib_table.specs.declared.life.Life.{Life}
 use Rattle.lib_table.specs.declared.life.Life.TheVariants.{Unborn, Live, Ended, Joined}
 use Rattle.lib_table.specs.Library.{LibraryData, life_at, with_life, is_live, is_running, is_unborn, next_number, stack_top}
-use Rattle.lib_table.specs.Outcome.{RowResult, Done, Waits, Bad, a1, a2, a3, unless_denied, unwritable, unreadable, word_at}
+use Rattle.lib_table.specs.Outcome.{RowResult, Done, Waits, Bad, a1, a2, a3, a4, low_32, unless_denied, unwritable, unreadable, word_at}
 use Rattle.lib_table.specs.Threads.{create, born_if, join, joining, joined, self_id, end_door, ended}
 use Rattle.lib_table.specs.Mutexes.{init, lock, trylock, unlock, destroy, taken}
 use Rattle.lib_table.specs.Searches.{comparison, new_frame, search_for, searching, searching_on, call_door, compared}
@@ -106,7 +106,7 @@ module _ (l : LibraryData) (t u : ℕ) (what : Asked) (ask : Ask) where
 
   init_kept : (m : Memory) (back : ℕ) → Kept l t u what ask (init l m ask back)
   unfolding init
-  init_kept m back = if_kept _ _ _ (same _ _ _ refl tt) (if_kept _ _ _ (same _ _ _ refl tt) (same _ _ _ refl tt))
+  init_kept m back = if_kept (not (a2 ask == 0)) _ _ (same _ _ _ refl tt) (if_kept _ _ _ (same _ _ _ refl tt) (same _ _ _ refl tt))
 
   taken_kept : (m : Memory) (back : ℕ) → Kept l t u what ask (taken l m t ask back)
   taken_kept m back = if_kept _ _ _ (same _ _ _ refl tt) (same _ _ _ refl tt)
@@ -165,7 +165,7 @@ module _ (l : LibraryData) (t u : ℕ) (what : Asked) (ask : Ask) where
 
   read_kept : (m : Memory) (back : ℕ) → Kept l t u what ask (read l m ask back)
   unfolding read
-  read_kept m back = if_kept _ _ _ (same _ _ _ refl tt) (denied_kept _ _ (same _ _ _ refl tt))
+  read_kept m back = if_kept (not (low_32 (a1 ask) == 0)) _ _ (same _ _ _ refl tt) (denied_kept _ _ (same _ _ _ refl tt))
 
   output_same : (b : Bool) (x y : LibraryData) → x.lives ≡ l.lives → y.lives ≡ l.lives → (cond b x y).lives ≡ l.lives
   output_same true x y p q = p
@@ -173,7 +173,7 @@ module _ (l : LibraryData) (t u : ℕ) (what : Asked) (ask : Ask) where
 
   write_kept : (m : Memory) (back : ℕ) → Kept l t u what ask (write l m ask back)
   unfolding write
-  write_kept m back = if_kept _ _ _ (same _ _ _ refl tt) (if_kept _ _ _ (same _ _ _ refl tt) (denied_kept _ _ (same _ _ _ (output_same _ _ _ refl refl) tt)))
+  write_kept m back = if_kept (not (low_32 (a1 ask) == 1 || low_32 (a1 ask) == 2)) _ _ (same _ _ _ refl tt) (if_kept _ _ _ (same _ _ _ refl tt) (denied_kept _ _ (same _ _ _ (output_same _ _ _ refl refl) tt)))
 
   call_kept : (f : Function) (m : Memory) → (ask.depth < 16 → HasRoom what ask) → Kept l t u what ask (call_row f l m t ask)
   unfolding self_id
