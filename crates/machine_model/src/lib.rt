@@ -19,4 +19,3 @@ pub mod ending;
 pub mod first;
 pub mod journal;
 pub mod laws;
-pub mod plain;
