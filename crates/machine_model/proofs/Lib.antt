@@ -6,6 +6,12 @@ pub mod Spelled
 pub mod Found
 pub mod Onward
 pub mod Runs
+pub mod LiftNumbers
+pub mod LiftWords
+pub mod LiftFollow
+pub mod LiftAlu
+pub mod LiftMoves
+pub mod LiftArith
 pub mod RowLives
 pub mod Walks
 pub mod Independence

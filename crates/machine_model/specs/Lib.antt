@@ -9,3 +9,8 @@ pub mod Reach
 pub mod Gated
 pub mod Plain
 pub mod First
+pub mod LiftLines
+pub mod LiftTable
+pub mod Follow
+pub mod Placed
+pub mod Faithful

@@ -9,16 +9,11 @@ use Rattle.x86_forms.specs.Reading.{read}
 use Rattle.x86_model.specs.Operands.{target}
 use Rattle.x86_model.specs.Want.{code_from}
 use Rattle.machine_model.specs.Step.{is_code_place}
+use Rattle.machine_model.specs.Placed.{Placed}
 
 -- the instruction that is spelled at a code place, in the bytes of one segment that can be run, and its length
 unfoldable pub instr_at : ImageData → ℕ → Option (Instr × ℕ)
 instr_at image a = if is_code_place image a then read (code_from image.segments a) else None
-
--- an instruction where it stands, and the address after it
-pub record Placed : Type 0 where
-  pub at : ℕ
-  pub instr : Instr
-  pub next : ℕ
 
 abbrev pub placed : ℕ → Instr × ℕ → Placed
 placed a x = record { at = a; instr = x.0; next = (a + x.1) % 2 ^ 64 }

@@ -1,4 +1,4 @@
-use Rattle.std.proofs.Common.{◌≡◌, sym, ap, ◌∙◌, refl}
+use Rattle.std.proofs.Common.{sym, ap, ◌∙◌, refl}
 use Rattle.machine_model.specs.First.Blocks.{Stand}
 use Rattle.machine_model.proofs.Runs.{entered_within, refused_within, entered_grown, refused_grown}
 use Rattle.machine_model.proofs.first.gated.Walker.enter.Goals as goal

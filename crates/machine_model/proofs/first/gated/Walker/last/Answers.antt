@@ -1,4 +1,4 @@
-use Rattle.std.proofs.Common.{◌≡◌, sym, ap, ◌∙◌, refl}
+use Rattle.std.proofs.Common.{sym, ap, ◌∙◌}
 use Rattle.machine_model.specs.First.Blocks.{Stand}
 use Rattle.machine_model.proofs.Runs.{last_between, last_within}
 use Rattle.machine_model.proofs.first.gated.Walker.last.Goals as goal

@@ -1,4 +1,4 @@
-use Rattle.std.proofs.Common.{◌≡◌, sym, ap, ◌∙◌, refl}
+use Rattle.std.proofs.Common.{sym, ap, ◌∙◌, refl}
 use Rattle.machine_model.specs.First.Blocks.{Stand, rest_of}
 use Rattle.machine_model.proofs.Runs.{run_rest, run_none}
 use Rattle.machine_model.proofs.first.gated.Walker.leave.Goals as goal

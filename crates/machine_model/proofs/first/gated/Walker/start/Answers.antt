@@ -1,4 +1,4 @@
-use Rattle.std.proofs.Common.{◌≡◌, refl}
+use Rattle.std.proofs.Common.{refl}
 use Rattle.machine_model.specs.First.Walker.{run_of}
 use Rattle.machine_model.proofs.first.gated.Walker.start.Goals as goal
 

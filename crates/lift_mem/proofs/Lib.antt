@@ -1,0 +1,11 @@
+pub mod Access
+pub mod Endings
+pub mod Operands
+pub mod Computing
+pub mod Compared
+pub mod Ordered
+pub mod Moves
+pub mod Pushed
+pub mod Transfers
+pub mod Statements
+pub mod Groups
