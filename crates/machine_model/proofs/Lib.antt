@@ -17,3 +17,4 @@ pub mod Walks
 pub mod Independence
 pub mod Costs
 pub mod Gates
+pub mod LiftTyped
