@@ -17,4 +17,5 @@ pub mod Walks
 pub mod Independence
 pub mod Costs
 pub mod Gates
+pub mod LiftTypes
 pub mod LiftTyped
