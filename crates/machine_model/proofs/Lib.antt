@@ -19,3 +19,5 @@ pub mod Costs
 pub mod Gates
 pub mod PlainLemmas
 pub mod PlainPlay
+pub mod LiftTypes
+pub mod LiftTyped
