@@ -9,7 +9,7 @@ use Rattle.machine_model.specs.Follow.{Lifts}
 use Rattle.machine_model.proofs.LiftAlu.{alu_law, one_law}
 use Rattle.machine_model.proofs.LiftMoves.{mov_law, zx_law, sx_law, lea_law, widen_law, xchg_law, set_law, cmov_law, nop_law, pause_law, endbr_law}
 use Rattle.machine_model.proofs.LiftArith.{shift_law, mul_law, imul_law, div_law, spread_law}
-use Rattle.lift_alu.proofs.Rows.{quiet_of}
+use Rattle.lift_alu.proofs.Quiet.{quiet_of}
 
 pub every_law : (i : Instr) (next : ℕ) → InstrFits i → group_of i ≡ group.Private → Lifts i next
 every_law (Alu op w dst src) next fit e = alu_law op w dst src next fit (quiet_of (Alu op w dst src) e)

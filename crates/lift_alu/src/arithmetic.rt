@@ -6,7 +6,7 @@ ghost use Rattle.machine_model.specs.LiftLines.{ir_width, reads, puts, alone, gi
 ghost use Rattle.machine_model.specs.LiftTable.{both_read, alu_parts, one_parts, count_line, counted_lines, shift_parts, product_lines, mul_ops};
 
 use crate::lines::{
-    ended, given, push_cleared, push_line, push_put, push_read, push_zero_flags, Source,
+    Source, ended, given, push_cleared, push_line, push_put, push_read, push_zero_flags,
 };
 use crate::words::{
     alu_family, high_family, ir_width, is_still, keeps_result, one_family, product_family,
@@ -44,7 +44,13 @@ fn with_flags(ops: Vec<Op>, source: Source) -> Result<Part, AllocError>
 }
 
 /// An operation on two operands.
-pub fn alu(alloc: Global, op: AluOp, w: Width, dst: Operand, src: Operand) -> Result<Part, AllocError>
+pub fn alu(
+    alloc: Global,
+    op: AluOp,
+    w: Width,
+    dst: Operand,
+    src: Operand,
+) -> Result<Part, AllocError>
     ensures { IfOk result (λ p. p ∷ [] ≡ alu_parts op w dst src) }
 {
     let mut ops = Vec::new(alloc);
@@ -131,7 +137,12 @@ fn push_shift_flags(ops: &mut Vec<Op>, op: ShiftOp, w: Width) -> Result<(), Allo
 }
 
 // The same, but none by a number whose used part is 0.
-fn push_counted(ops: &mut Vec<Op>, op: ShiftOp, w: Width, count: Option<u8>) -> Result<(), AllocError>
+fn push_counted(
+    ops: &mut Vec<Op>,
+    op: ShiftOp,
+    w: Width,
+    count: Option<u8>,
+) -> Result<(), AllocError>
     ensures { IfOk result (λ _. ops.new.items ≡ ops.old.items ++ counted_lines op w count) }
 {
     match count {
@@ -147,7 +158,13 @@ fn push_counted(ops: &mut Vec<Op>, op: ShiftOp, w: Width, count: Option<u8>) -> 
 }
 
 /// A shift or a rotation by a number or by cl.
-pub fn shift(alloc: Global, op: ShiftOp, w: Width, dst: Operand, count: Option<u8>) -> Result<Part, AllocError>
+pub fn shift(
+    alloc: Global,
+    op: ShiftOp,
+    w: Width,
+    dst: Operand,
+    count: Option<u8>,
+) -> Result<Part, AllocError>
     ensures { IfOk result (λ p. p ∷ [] ≡ shift_parts op w dst count) }
 {
     let mut ops = Vec::new(alloc);

@@ -16,6 +16,8 @@ pub mod laws;
 pub mod lines;
 pub mod moves;
 mod private;
+#[cfg(test)]
+mod tests;
 pub mod words;
 
 pub use laws::private_lifts;

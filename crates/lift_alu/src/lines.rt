@@ -70,36 +70,52 @@ pub fn push_read(ops: &mut Vec<Op>, w: Width, operand: Operand, t: u8) -> Result
     ensures { IfOk result (λ _. ops.new.items ≡ ops.old.items ++ reads w operand t) }
 {
     match operand {
-        Operand::Reg(r) => push_line(ops, Op::Get {
-            w: ir_width(w),
-            t,
-            r,
-        }),
+        Operand::Reg(r) => push_line(
+            ops,
+            Op::Get {
+                w: ir_width(w),
+                t,
+                r,
+            },
+        ),
         Operand::High(r) => push_line(ops, Op::GetHigh { t, r }),
-        Operand::Imm(n) => push_line(ops, Op::Const {
-            w: ir_width(w),
-            t,
-            n,
-        }),
+        Operand::Imm(n) => push_line(
+            ops,
+            Op::Const {
+                w: ir_width(w),
+                t,
+                n,
+            },
+        ),
         Operand::Mem(_) => Ok(()),
     }
 }
 
 /// Adds the part that loads an operand to temporary `t`, if it is in memory.
-pub fn push_load(parts: &mut Vec<Part>, alloc: Global, next: u64, w: Width, operand: Operand, t: u8) -> Result<(), AllocError>
+pub fn push_load(
+    parts: &mut Vec<Part>,
+    alloc: Global,
+    next: u64,
+    w: Width,
+    operand: Operand,
+    t: u8,
+) -> Result<(), AllocError>
     ensures { IfOk result (λ _. parts.new.items ≡ parts.old.items ++ loads next w operand t) }
 {
     match operand {
         Operand::Mem(mem) => {
             let ops = vec![in alloc; address_line(next, mem)]?;
-            push_part(parts, ended(
-                ops,
-                PartEnd::Load {
-                    w: ir_width(w),
-                    t,
-                    a: 0,
-                },
-            ))
+            push_part(
+                parts,
+                ended(
+                    ops,
+                    PartEnd::Load {
+                        w: ir_width(w),
+                        t,
+                        a: 0,
+                    },
+                ),
+            )
         }
         Operand::Reg(_) | Operand::High(_) | Operand::Imm(_) => Ok(()),
     }
@@ -110,11 +126,14 @@ pub fn push_put(ops: &mut Vec<Op>, w: Width, operand: Operand, t: u8) -> Result<
     ensures { IfOk result (λ _. ops.new.items ≡ ops.old.items ++ puts w operand t) }
 {
     match operand {
-        Operand::Reg(r) => push_line(ops, Op::Put {
-            w: ir_width(w),
-            r,
-            t,
-        }),
+        Operand::Reg(r) => push_line(
+            ops,
+            Op::Put {
+                w: ir_width(w),
+                r,
+                t,
+            },
+        ),
         Operand::High(r) => push_line(ops, Op::PutHigh { r, t }),
         Operand::Mem(_) | Operand::Imm(_) => Ok(()),
     }
@@ -203,7 +222,8 @@ impl Source {
         ensures { IfOk result (λ _. ops.new.items ≡ ops.old.items ++ flag_lines all_five self.family self.w self.a self.b) }
     {
         self.push_all_but_carry(ops)?;
-        push_line(ops, self.flag(Flag::Cf))
+        let last = self.flag(Flag::Cf);
+        push_line(ops, last)
     }
 
     /// Adds the lines of the overflow flag and the carry flag.

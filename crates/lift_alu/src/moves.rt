@@ -13,7 +13,13 @@ use std::alloc::{AllocError, Global};
 use x86_forms::{Cond, Mem, Operand, Width};
 
 /// MOV.
-pub fn mov(alloc: Global, next: u64, w: Width, dst: Operand, src: Operand) -> Result<Part, AllocError>
+pub fn mov(
+    alloc: Global,
+    next: u64,
+    w: Width,
+    dst: Operand,
+    src: Operand,
+) -> Result<Part, AllocError>
     ensures { IfOk result (λ p. p ∷ [] ≡ given_at (addressed next dst ++ reads w src 1) w dst 1) }
 {
     let mut ops = Vec::new(alloc);
@@ -23,7 +29,13 @@ pub fn mov(alloc: Global, next: u64, w: Width, dst: Operand, src: Operand) -> Re
 }
 
 /// An operand of width `from` goes to register `dst`, with zeros above it.
-pub fn zero_extended(alloc: Global, from: Width, w: Width, src: Operand, dst: u8) -> Result<Part, AllocError>
+pub fn zero_extended(
+    alloc: Global,
+    from: Width,
+    w: Width,
+    src: Operand,
+    dst: u8,
+) -> Result<Part, AllocError>
     ensures { IfOk result (λ p. p ∷ [] ≡ zero_extended_to from w src dst) }
 {
     let mut ops = Vec::new(alloc);
@@ -39,7 +51,13 @@ pub fn zero_extended(alloc: Global, from: Width, w: Width, src: Operand, dst: u8
 }
 
 /// An operand of width `from` goes to register `dst`, with copies of its top bit above it.
-pub fn sign_extended(alloc: Global, from: Width, w: Width, src: Operand, dst: u8) -> Result<Part, AllocError>
+pub fn sign_extended(
+    alloc: Global,
+    from: Width,
+    w: Width,
+    src: Operand,
+    dst: u8,
+) -> Result<Part, AllocError>
     ensures { IfOk result (λ p. p ∷ [] ≡ sign_extended_to from w src dst) }
 {
     let mut ops = Vec::new(alloc);

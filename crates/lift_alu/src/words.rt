@@ -98,22 +98,14 @@ pub fn shift_family(op: ShiftOp) -> Family
 pub fn high_family(signed: bool) -> Family
     ensures { result ≡ high_family signed }
 {
-    if signed {
-        Family::Smulh
-    } else {
-        Family::Umulh
-    }
+    if signed { Family::Smulh } else { Family::Umulh }
 }
 
 /// The family of the flags of a product.
 pub fn product_family(signed: bool) -> Family
     ensures { result ≡ product_family signed }
 {
-    if signed {
-        Family::Smul
-    } else {
-        Family::Umul
-    }
+    if signed { Family::Smul } else { Family::Umul }
 }
 
 /// Half of 32 or 64 bits.
