@@ -30,11 +30,7 @@ fn called(ops: Vec<Op>, next: u64, to: Target) -> Result<Part, AllocError>
     let mut all = ops;
     push_pushed(&mut all)?;
     push_read(&mut all, Width::W64, Operand::Imm(next), 1)?;
-    let store = PartEnd::StoreGo {
-        a: 2,
-        t: 1,
-        to,
-    };
+    let store = PartEnd::StoreGo { a: 2, t: 1, to };
     Ok(ended(all, store))
 }
 

@@ -16,6 +16,8 @@ mod locked;
 mod memory;
 mod parts;
 mod stack;
+#[cfg(test)]
+mod tests;
 
 pub use flow::lift_flow;
 pub use memory::lift_memory;

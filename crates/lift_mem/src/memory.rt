@@ -12,56 +12,108 @@ use lift_alu::words::is_immediate;
 use std::alloc::{AllocError, Global};
 use x86_forms::{AluOp, Cond, Group, Instr, OneOp, Operand, ShiftOp, Width};
 
-fn alu_parts(alloc: Global, next: u64, op: AluOp, w: Width, dst: Operand, src: Operand) -> Result<Vec<Part>, AllocError>
+fn alu_parts(
+    alloc: Global,
+    next: u64,
+    op: AluOp,
+    w: Width,
+    dst: Operand,
+    src: Operand,
+) -> Result<Vec<Part>, AllocError>
     ensures { IfOk result (λ parts. parts.items ≡ lifted (Instr.Alu op w dst src) next) }
 {
     let last = alu(alloc, op, w, dst, src)?;
     after_loads(alloc, next, w, dst, src, last)
 }
 
-fn mov_parts(alloc: Global, next: u64, w: Width, dst: Operand, src: Operand) -> Result<Vec<Part>, AllocError>
+fn mov_parts(
+    alloc: Global,
+    next: u64,
+    w: Width,
+    dst: Operand,
+    src: Operand,
+) -> Result<Vec<Part>, AllocError>
     ensures { IfOk result (λ parts. parts.items ≡ lifted (Instr.Mov w dst src) next) }
 {
     let last = mov(alloc, next, w, dst, src)?;
     after_load(alloc, next, w, src, 1, last)
 }
 
-fn zx_parts(alloc: Global, next: u64, from: Width, w: Width, dst: u8, src: Operand) -> Result<Vec<Part>, AllocError>
+fn zx_parts(
+    alloc: Global,
+    next: u64,
+    from: Width,
+    w: Width,
+    dst: u8,
+    src: Operand,
+) -> Result<Vec<Part>, AllocError>
     ensures { IfOk result (λ parts. parts.items ≡ lifted (Instr.Zx from w dst src) next) }
 {
     let last = zero_extended(alloc, from, w, src, dst)?;
     after_load(alloc, next, from, src, 1, last)
 }
 
-fn sx_parts(alloc: Global, next: u64, from: Width, w: Width, dst: u8, src: Operand) -> Result<Vec<Part>, AllocError>
+fn sx_parts(
+    alloc: Global,
+    next: u64,
+    from: Width,
+    w: Width,
+    dst: u8,
+    src: Operand,
+) -> Result<Vec<Part>, AllocError>
     ensures { IfOk result (λ parts. parts.items ≡ lifted (Instr.Sx from w dst src) next) }
 {
     let last = sign_extended(alloc, from, w, src, dst)?;
     after_load(alloc, next, from, src, 1, last)
 }
 
-fn one_parts(alloc: Global, next: u64, op: OneOp, w: Width, dst: Operand) -> Result<Vec<Part>, AllocError>
+fn one_parts(
+    alloc: Global,
+    next: u64,
+    op: OneOp,
+    w: Width,
+    dst: Operand,
+) -> Result<Vec<Part>, AllocError>
     ensures { IfOk result (λ parts. parts.items ≡ lifted (Instr.One op w dst) next) }
 {
     let last = one(alloc, op, w, dst)?;
     after_load(alloc, next, w, dst, 1, last)
 }
 
-fn shift_parts(alloc: Global, next: u64, op: ShiftOp, w: Width, dst: Operand, count: Option<u8>) -> Result<Vec<Part>, AllocError>
+fn shift_parts(
+    alloc: Global,
+    next: u64,
+    op: ShiftOp,
+    w: Width,
+    dst: Operand,
+    count: Option<u8>,
+) -> Result<Vec<Part>, AllocError>
     ensures { IfOk result (λ parts. parts.items ≡ lifted (Instr.Shift op w dst count) next) }
 {
     let last = shift(alloc, op, w, dst, count)?;
     after_load(alloc, next, w, dst, 1, last)
 }
 
-fn mul_parts(alloc: Global, next: u64, signed: bool, w: Width, src: Operand) -> Result<Vec<Part>, AllocError>
+fn mul_parts(
+    alloc: Global,
+    next: u64,
+    signed: bool,
+    w: Width,
+    src: Operand,
+) -> Result<Vec<Part>, AllocError>
     ensures { IfOk result (λ parts. parts.items ≡ lifted (Instr.Mul signed w src) next) }
 {
     let last = mul(alloc, signed, w, src)?;
     after_load(alloc, next, w, src, 1, last)
 }
 
-fn div_parts(alloc: Global, next: u64, signed: bool, w: Width, src: Operand) -> Result<Vec<Part>, AllocError>
+fn div_parts(
+    alloc: Global,
+    next: u64,
+    signed: bool,
+    w: Width,
+    src: Operand,
+) -> Result<Vec<Part>, AllocError>
     ensures { IfOk result (λ parts. parts.items ≡ lifted (Instr.Div signed w src) next) }
 {
     let last = div(alloc, signed, w, src)?;
@@ -69,7 +121,14 @@ fn div_parts(alloc: Global, next: u64, signed: bool, w: Width, src: Operand) -> 
 }
 
 // The factors in the order of their temporaries.
-fn factors(alloc: Global, next: u64, w: Width, dst: u8, a: Operand, b: Operand) -> Result<Vec<Part>, AllocError>
+fn factors(
+    alloc: Global,
+    next: u64,
+    w: Width,
+    dst: u8,
+    a: Operand,
+    b: Operand,
+) -> Result<Vec<Part>, AllocError>
     ensures { IfOk result (λ parts. parts.items ≡ imul_parts next w dst a b) }
 {
     let last = imul(alloc, w, dst, a, b)?;
@@ -77,7 +136,14 @@ fn factors(alloc: Global, next: u64, w: Width, dst: u8, a: Operand, b: Operand) 
 }
 
 // The number of a product, where there is one, is the second factor.
-fn product(alloc: Global, next: u64, w: Width, dst: u8, a: Operand, b: Operand) -> Result<Vec<Part>, AllocError>
+fn product(
+    alloc: Global,
+    next: u64,
+    w: Width,
+    dst: u8,
+    a: Operand,
+    b: Operand,
+) -> Result<Vec<Part>, AllocError>
     ensures { IfOk result (λ parts. parts.items ≡ lifted (Instr.Imul w dst a b) next) }
 {
     if is_immediate(b) {
@@ -87,7 +153,14 @@ fn product(alloc: Global, next: u64, w: Width, dst: u8, a: Operand, b: Operand) 
     }
 }
 
-fn cmov_parts(alloc: Global, next: u64, cc: Cond, w: Width, dst: u8, src: Operand) -> Result<Vec<Part>, AllocError>
+fn cmov_parts(
+    alloc: Global,
+    next: u64,
+    cc: Cond,
+    w: Width,
+    dst: u8,
+    src: Operand,
+) -> Result<Vec<Part>, AllocError>
     ensures { IfOk result (λ parts. parts.items ≡ lifted (Instr.Cmov cc w dst src) next) }
 {
     let last = cmov(alloc, cc, w, dst, src)?;
@@ -104,7 +177,13 @@ fn set_parts(alloc: Global, next: u64, cc: Cond, dst: Operand) -> Result<Vec<Par
 }
 
 // With memory one locked step; where the first operand is none, the registers get what the other had.
-fn exchange_parts(alloc: Global, next: u64, w: Width, a: Operand, b: Operand) -> Result<Vec<Part>, AllocError>
+fn exchange_parts(
+    alloc: Global,
+    next: u64,
+    w: Width,
+    a: Operand,
+    b: Operand,
+) -> Result<Vec<Part>, AllocError>
     ensures { IfOk result (λ parts. parts.items ≡ lifted (Instr.Xchg w a b) next) }
 {
     match a {

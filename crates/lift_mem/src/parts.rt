@@ -17,7 +17,14 @@ pub fn end_alone(alloc: Global, end: PartEnd) -> Result<Vec<Part>, AllocError>
 }
 
 /// The part that loads an operand to temporary `t`, if it is in memory, and then a last one.
-pub fn after_load(alloc: Global, next: u64, w: Width, operand: Operand, t: u8, last: Part) -> Result<Vec<Part>, AllocError>
+pub fn after_load(
+    alloc: Global,
+    next: u64,
+    w: Width,
+    operand: Operand,
+    t: u8,
+    last: Part,
+) -> Result<Vec<Part>, AllocError>
     ensures { IfOk result (λ parts. parts.items ≡ loads next w operand t ++ last ∷ []) }
 {
     let mut parts = Vec::new(alloc);
@@ -27,7 +34,14 @@ pub fn after_load(alloc: Global, next: u64, w: Width, operand: Operand, t: u8, l
 }
 
 /// The same of two operands, to temporaries 1 and 2.
-pub fn after_loads(alloc: Global, next: u64, w: Width, a: Operand, b: Operand, last: Part) -> Result<Vec<Part>, AllocError>
+pub fn after_loads(
+    alloc: Global,
+    next: u64,
+    w: Width,
+    a: Operand,
+    b: Operand,
+    last: Part,
+) -> Result<Vec<Part>, AllocError>
     ensures { IfOk result (λ parts. parts.items ≡ loads next w a 1 ++ (loads next w b 2 ++ last ∷ [])) }
 {
     let mut parts = Vec::new(alloc);
