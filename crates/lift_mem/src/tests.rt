@@ -15,8 +15,6 @@ const RAX: u8 = 0;
 
 const RCX: u8 = 1;
 
-const RBX: u8 = 3;
-
 const RSP: u8 = 4;
 
 const RBP: u8 = 5;
@@ -57,6 +55,40 @@ const EA: Op = Op::Ea {
 };
 
 const FIVE: [Flag; 5] = [Flag::Pf, Flag::Zf, Flag::Sf, Flag::Of, Flag::Cf];
+
+const FOUR: [Flag; 4] = [Flag::Pf, Flag::Zf, Flag::Sf, Flag::Of];
+
+const EQUAL: Op = Op::Cond { t: 4, c: Cond::E };
+
+const fn zero(flag: Flag) -> Op {
+    Op::FlagZero { flag }
+}
+
+// t becomes temporary 1 with zeros above its bits.
+const fn zext(from: u8, w: Width, t: u8) -> Op {
+    Op::Zext { from, w, t, a: 1 }
+}
+
+// Temporary 7 becomes one of two by temporary 4.
+const fn pick(w: Width, a: u8, b: u8) -> Op {
+    Op::Pick {
+        w,
+        t: 7,
+        c: 4,
+        a,
+        b,
+    }
+}
+
+const fn compare(w: Width) -> PartEnd {
+    PartEnd::LockedCmpxchg {
+        w,
+        t: 1,
+        a: 0,
+        c: 3,
+        s: 2,
+    }
+}
 
 const fn ea(t: u8, base: Option<u8>, n: u64) -> Op {
     Op::Ea {
@@ -182,28 +214,23 @@ fn is_two(alloc: Global, instr: Instr, first: &Part, last: &Part) -> Result<bool
     Ok(parts.len() == 2 && parts[0] == *first && parts[1] == *last)
 }
 
-#[test]
-fn operands_in_memory(rt: HostRuntime) -> Result<(), Fail> {
-    let alloc = rt.alloc();
-    // adc [rbx], ecx
+// adc [rbx], ecx
+fn adc(alloc: Global) -> Result<bool, AllocError> {
     let of = made_of(Family::Adc, W32, 1, Some(2));
     let first = part(alloc, &[EA], load(W32, 1))?;
-    let last = with_flags(
-        alloc,
-        &[get(W32, 2, RCX), calc(of, 3)],
-        &FIVE,
-        of,
-        &[],
-        store(W32, 0, 3),
-    )?;
+    let before = [get(W32, 2, RCX), calc(of, 3)];
+    let last = with_flags(alloc, &before, &FIVE, of, &[], store(W32, 0, 3))?;
     let adc = Instr::Alu {
         op: AluOp::Adc,
         w: D,
         dst: AT,
         src: CX,
     };
-    assert!(rt; is_two(alloc, adc, &first, &last)?);
-    // cmp rax, [rip + 16]
+    is_two(alloc, adc, &first, &last)
+}
+
+// cmp rax, [rip + 16]
+fn cmp(alloc: Global) -> Result<bool, AllocError> {
     let of = made_of(Family::Sub, W64, 1, Some(2));
     let first = part(alloc, &[ea(0, None, 0x401017)], load(W64, 2))?;
     let last = with_flags(alloc, &[get(W64, 1, RAX)], &FIVE, of, &[], PartEnd::Tick)?;
@@ -219,20 +246,26 @@ fn operands_in_memory(rt: HostRuntime) -> Result<(), Fail> {
         dst: AX,
         src: Operand::Mem(mem),
     };
-    assert!(rt; is_two(alloc, cmp, &first, &last)?);
-    // dec byte [rbx]
+    is_two(alloc, cmp, &first, &last)
+}
+
+// dec byte [rbx]
+fn dec(alloc: Global) -> Result<bool, AllocError> {
     let of = made_of(Family::Dec, W8, 1, None);
     let first = part(alloc, &[EA], load(W8, 1))?;
-    let four = [Flag::Pf, Flag::Zf, Flag::Sf, Flag::Of];
-    let last = with_flags(alloc, &[calc(of, 3)], &four, of, &[], store(W8, 0, 3))?;
+    let last = with_flags(alloc, &[calc(of, 3)], &FOUR, of, &[], store(W8, 0, 3))?;
     let dec = Instr::One {
         op: OneOp::Dec,
         w: B,
         dst: AT,
     };
-    assert!(rt; is_two(alloc, dec, &first, &last)?);
-    // shl byte [rbx], 32
+    is_two(alloc, dec, &first, &last)
+}
+
+// shl byte [rbx], 32
+fn shl(alloc: Global) -> Result<bool, AllocError> {
     let of = made_of(Family::Shl, W8, 1, Some(2));
+    let first = part(alloc, &[EA], load(W8, 1))?;
     let last = part(alloc, &[number(W8, 2, 32), calc(of, 3)], store(W8, 0, 3))?;
     let shl = Instr::Shift {
         op: ShiftOp::Shl,
@@ -240,19 +273,12 @@ fn operands_in_memory(rt: HostRuntime) -> Result<(), Fail> {
         dst: AT,
         count: Some(32),
     };
-    assert!(rt; is_two(alloc, shl, &first, &last)?);
-    Ok(())
+    is_two(alloc, shl, &first, &last)
 }
 
-const fn zero(flag: Flag) -> Op {
-    Op::FlagZero { flag }
-}
-
-#[test]
-fn products_and_quotients(rt: HostRuntime) -> Result<(), Fail> {
-    let alloc = rt.alloc();
+// imul eax, [rbx], 7
+fn imul(alloc: Global) -> Result<bool, AllocError> {
     let first = part(alloc, &[EA], load(W32, 1))?;
-    // imul eax, [rbx], 7
     let product = made_of(Family::Mul, W32, 2, Some(1));
     let before = [
         number(W32, 2, 7),
@@ -261,22 +287,21 @@ fn products_and_quotients(rt: HostRuntime) -> Result<(), Fail> {
         zero(Flag::Zf),
         zero(Flag::Sf),
     ];
-    let last = with_flags(
-        alloc,
-        &before,
-        &[Flag::Of, Flag::Cf],
-        made_of(Family::Smul, W32, 2, Some(1)),
-        &[put(W32, RAX, 3)],
-        PartEnd::Tick,
-    )?;
+    let of = made_of(Family::Smul, W32, 2, Some(1));
+    let two = [Flag::Of, Flag::Cf];
+    let last = with_flags(alloc, &before, &two, of, &[put(W32, RAX, 3)], PartEnd::Tick)?;
     let imul = Instr::Imul {
         w: D,
         dst: RAX,
         a: AT,
         b: Operand::Imm(7),
     };
-    assert!(rt; is_two(alloc, imul, &first, &last)?);
-    // idiv dword [rbx]
+    is_two(alloc, imul, &first, &last)
+}
+
+// idiv dword [rbx]
+fn idiv(alloc: Global) -> Result<bool, AllocError> {
+    let first = part(alloc, &[EA], load(W32, 1))?;
     let none = [
         zero(Flag::Pf),
         zero(Flag::Zf),
@@ -295,14 +320,11 @@ fn products_and_quotients(rt: HostRuntime) -> Result<(), Fail> {
         w: D,
         src: AT,
     };
-    assert!(rt; is_two(alloc, idiv, &first, &last)?);
-    Ok(())
+    is_two(alloc, idiv, &first, &last)
 }
 
-#[test]
-fn moves(rt: HostRuntime) -> Result<(), Fail> {
-    let alloc = rt.alloc();
-    // mov [rbx + rcx * 4 - 8], ah
+// mov [rbx + rcx * 4 - 8], ah
+fn mov(alloc: Global) -> Result<bool, AllocError> {
     let mem = Mem {
         base: Base::Reg(3),
         index: Some(1),
@@ -311,14 +333,14 @@ fn moves(rt: HostRuntime) -> Result<(), Fail> {
     };
     let address = Op::Ea {
         t: 0,
-        base: Some(RBX),
-        index: Some(RCX),
+        base: Some(3),
+        index: Some(1),
         scale: 4,
         n: EIGHT_LESS,
     };
     let only = part(
         alloc,
-        &[address, Op::GetHigh { t: 1, r: RAX }],
+        &[address, Op::GetHigh { t: 1, r: 0 }],
         store(W8, 0, 1),
     )?;
     let mov = Instr::Mov {
@@ -326,47 +348,35 @@ fn moves(rt: HostRuntime) -> Result<(), Fail> {
         dst: Operand::Mem(mem),
         src: Operand::High(0),
     };
-    assert!(rt; is_one(alloc, mov, &only)?);
-    // movzx eax, byte [rbx]
+    is_one(alloc, mov, &only)
+}
+
+// movzx eax, byte [rbx]
+fn movzx(alloc: Global) -> Result<bool, AllocError> {
     let first = part(alloc, &[EA], load(W8, 1))?;
-    let wider = Op::Zext {
-        from: 8,
-        w: W32,
-        t: 2,
-        a: 1,
-    };
-    let last = part(alloc, &[wider, put(W32, RAX, 2)], PartEnd::Tick)?;
+    let last = part(alloc, &[zext(8, W32, 2), put(W32, RAX, 2)], PartEnd::Tick)?;
     let movzx = Instr::Zx {
         from: B,
         w: D,
         dst: RAX,
         src: AT,
     };
-    assert!(rt; is_two(alloc, movzx, &first, &last)?);
-    // sete [rbx]
-    let lines = [
-        EA,
-        Op::Cond { t: 1, c: Cond::E },
-        Op::Zext {
-            from: 1,
-            w: W8,
-            t: 2,
-            a: 1,
-        },
-    ];
+    is_two(alloc, movzx, &first, &last)
+}
+
+// sete [rbx]
+fn sete(alloc: Global) -> Result<bool, AllocError> {
+    let lines = [EA, Op::Cond { t: 1, c: Cond::E }, zext(1, W8, 2)];
     let only = part(alloc, &lines, store(W8, 0, 2))?;
     let sete = Instr::Set {
         cc: x86_forms::Cond::E,
         dst: AT,
     };
-    assert!(rt; is_one(alloc, sete, &only)?);
-    Ok(())
+    is_one(alloc, sete, &only)
 }
 
-#[test]
-fn stack(rt: HostRuntime) -> Result<(), Fail> {
-    let alloc = rt.alloc();
-    // push rsp
+// push rsp
+fn push_rsp(alloc: Global) -> Result<bool, AllocError> {
     let lines = [
         get(W64, 1, RSP),
         ea(2, Some(RSP), EIGHT_LESS),
@@ -376,41 +386,42 @@ fn stack(rt: HostRuntime) -> Result<(), Fail> {
     let push = Instr::Push {
         src: Operand::Reg(RSP),
     };
-    assert!(rt; is_one(alloc, push, &only)?);
-    // pop rsp and pop rbx
+    is_one(alloc, push, &only)
+}
+
+fn pop(alloc: Global, dst: u8) -> Result<bool, AllocError> {
     let first = part(alloc, &[get(W64, 0, RSP)], load(W64, 1))?;
-    for dst in [RSP, RBX] {
-        let lines = [ea(2, Some(RSP), 8), put(W64, RSP, 2), put(W64, dst, 1)];
-        let last = part(alloc, &lines, PartEnd::Tick)?;
-        assert!(rt; is_two(alloc, Instr::Pop { dst }, &first, &last)?);
-    }
-    // leave
+    let lines = [ea(2, Some(RSP), 8), put(W64, RSP, 2), put(W64, dst, 1)];
+    let last = part(alloc, &lines, PartEnd::Tick)?;
+    is_two(alloc, Instr::Pop { dst }, &first, &last)
+}
+
+fn leave(alloc: Global) -> Result<bool, AllocError> {
     let first = part(alloc, &[get(W64, 0, RBP)], load(W64, 1))?;
     let lines = [ea(2, Some(RBP), 8), put(W64, RSP, 2), put(W64, RBP, 1)];
     let last = part(alloc, &lines, PartEnd::Tick)?;
-    assert!(rt; is_two(alloc, Instr::Leave, &first, &last)?);
-    Ok(())
+    is_two(alloc, Instr::Leave, &first, &last)
 }
 
-#[test]
-fn locked_steps(rt: HostRuntime) -> Result<(), Fail> {
-    let alloc = rt.alloc();
-    // lock inc dword [rbx]
+// lock inc dword [rbx]
+fn lock_inc(alloc: Global) -> Result<bool, AllocError> {
     let of = made_of(Family::Inc, W32, 1, None);
-    let four = [Flag::Pf, Flag::Zf, Flag::Sf, Flag::Of];
     let first = part(
         alloc,
         &[EA, number(W32, 2, 1)],
         locked(LockOp::Add, W32, 1, 2),
     )?;
-    let last = with_flags(alloc, &[], &four, of, &[], PartEnd::Tick)?;
+    let last = with_flags(alloc, &[], &FOUR, of, &[], PartEnd::Tick)?;
     let inc = Instr::LockOne {
         op: OneOp::Inc,
         w: D,
         mem: MEM,
     };
-    assert!(rt; is_two(alloc, inc, &first, &last)?);
-    // lock sub [rbx], ecx
+    is_two(alloc, inc, &first, &last)
+}
+
+// lock sub [rbx], ecx
+fn lock_sub(alloc: Global) -> Result<bool, AllocError> {
     let of = made_of(Family::Sub, W32, 1, Some(2));
     let first = part(
         alloc,
@@ -424,8 +435,11 @@ fn locked_steps(rt: HostRuntime) -> Result<(), Fail> {
         mem: MEM,
         src: CX,
     };
-    assert!(rt; is_two(alloc, sub, &first, &last)?);
-    // lock xadd [rbx], rcx
+    is_two(alloc, sub, &first, &last)
+}
+
+// lock xadd [rbx], rcx
+fn xadd(alloc: Global) -> Result<bool, AllocError> {
     let of = made_of(Family::Add, W64, 1, Some(2));
     let first = part(
         alloc,
@@ -438,8 +452,11 @@ fn locked_steps(rt: HostRuntime) -> Result<(), Fail> {
         mem: MEM,
         reg: CX,
     };
-    assert!(rt; is_two(alloc, xadd, &first, &last)?);
-    // xchg [rbx], cl
+    is_two(alloc, xadd, &first, &last)
+}
+
+// xchg [rbx], cl
+fn xchg(alloc: Global) -> Result<bool, AllocError> {
     let first = part(
         alloc,
         &[EA, get(W8, 1, RCX)],
@@ -447,42 +464,21 @@ fn locked_steps(rt: HostRuntime) -> Result<(), Fail> {
     )?;
     let last = part(alloc, &[put(W8, RCX, 2)], PartEnd::Tick)?;
     let xchg = Instr::Xchg { w: B, a: AT, b: CX };
-    assert!(rt; is_two(alloc, xchg, &first, &last)?);
-    // mfence
-    let only = part(alloc, &[], PartEnd::Fence)?;
-    assert!(rt; is_one(alloc, Instr::Mfence, &only)?);
-    Ok(())
+    is_two(alloc, xchg, &first, &last)
 }
 
-#[test]
-fn compared(rt: HostRuntime) -> Result<(), Fail> {
-    let alloc = rt.alloc();
-    let equal = Op::Cond { t: 4, c: Cond::E };
-    // lock cmpxchg [rbx], ecx
-    let step = PartEnd::LockedCmpxchg {
-        w: W32,
-        t: 1,
-        a: 0,
-        c: 3,
-        s: 2,
-    };
-    let first = part(alloc, &[EA, get(W32, 2, RCX), get(W32, 3, RAX)], step)?;
+// lock cmpxchg [rbx], ecx
+fn cmpxchg(alloc: Global) -> Result<bool, AllocError> {
+    let first = part(
+        alloc,
+        &[EA, get(W32, 2, RCX), get(W32, 3, RAX)],
+        compare(W32),
+    )?;
     let after = [
-        equal,
+        EQUAL,
         get(W64, 5, RAX),
-        Op::Zext {
-            from: 32,
-            w: W64,
-            t: 6,
-            a: 1,
-        },
-        Op::Pick {
-            w: W64,
-            t: 7,
-            c: 4,
-            a: 5,
-            b: 6,
-        },
+        zext(32, W64, 6),
+        pick(W64, 5, 6),
         put(W64, RAX, 7),
     ];
     let of = made_of(Family::Sub, W32, 3, Some(1));
@@ -492,45 +488,30 @@ fn compared(rt: HostRuntime) -> Result<(), Fail> {
         mem: MEM,
         reg: CX,
     };
-    assert!(rt; is_two(alloc, cmpxchg, &first, &last)?);
-    // lock cmpxchg [rbx], cl
-    let step = PartEnd::LockedCmpxchg {
-        w: W8,
-        t: 1,
-        a: 0,
-        c: 3,
-        s: 2,
-    };
-    let first = part(alloc, &[EA, get(W8, 2, RCX), get(W8, 3, RAX)], step)?;
-    let pick = Op::Pick {
-        w: W8,
-        t: 7,
-        c: 4,
-        a: 3,
-        b: 1,
-    };
+    is_two(alloc, cmpxchg, &first, &last)
+}
+
+// lock cmpxchg [rbx], cl
+fn cmpxchg_byte(alloc: Global) -> Result<bool, AllocError> {
+    let first = part(alloc, &[EA, get(W8, 2, RCX), get(W8, 3, RAX)], compare(W8))?;
+    let after = [EQUAL, pick(W8, 3, 1), put(W8, RAX, 7)];
     let of = made_of(Family::Sub, W8, 3, Some(1));
-    let last = with_flags(
-        alloc,
-        &[],
-        &FIVE,
-        of,
-        &[equal, pick, put(W8, RAX, 7)],
-        PartEnd::Tick,
-    )?;
+    let last = with_flags(alloc, &[], &FIVE, of, &after, PartEnd::Tick)?;
     let cmpxchg = Instr::Cmpxchg {
         w: B,
         mem: MEM,
         reg: CX,
     };
-    assert!(rt; is_two(alloc, cmpxchg, &first, &last)?);
-    Ok(())
+    is_two(alloc, cmpxchg, &first, &last)
 }
 
-#[test]
-fn transfers(rt: HostRuntime) -> Result<(), Fail> {
-    let alloc = rt.alloc();
-    // jb to 2 bytes before the next instruction
+fn mfence(alloc: Global) -> Result<bool, AllocError> {
+    let only = part(alloc, &[], PartEnd::Fence)?;
+    is_one(alloc, Instr::Mfence, &only)
+}
+
+// jb to 2 bytes before the next instruction
+fn jb(alloc: Global) -> Result<bool, AllocError> {
     let branch = PartEnd::Branch {
         c: Cond::B,
         yes: 0x401005,
@@ -541,27 +522,37 @@ fn transfers(rt: HostRuntime) -> Result<(), Fail> {
         cc: x86_forms::Cond::B,
         rel: -2,
     };
-    assert!(rt; is_one(alloc, jb, &only)?);
-    // jmp rax
+    is_one(alloc, jb, &only)
+}
+
+// jmp rax
+fn jmp_rax(alloc: Global) -> Result<bool, AllocError> {
     let go = PartEnd::Go {
         to: Target::Temp(1),
     };
     let only = part(alloc, &[get(W64, 1, RAX)], go)?;
-    assert!(rt; is_one(alloc, Instr::JmpTo { src: AX }, &only)?);
-    // call to 16 bytes after the next instruction
+    is_one(alloc, Instr::JmpTo { src: AX }, &only)
+}
+
+// rsp becomes 8 less, and the address of the next instruction is stored there.
+fn pushed(alloc: Global, to: Target) -> Result<Part, AllocError> {
     let lines = [
         ea(2, Some(RSP), EIGHT_LESS),
         put(W64, RSP, 2),
         number(W64, 1, NEXT),
     ];
-    let place = PartEnd::StoreGo {
-        a: 2,
-        t: 1,
-        to: Target::Place(0x401017),
-    };
-    let only = part(alloc, &lines, place)?;
-    assert!(rt; is_one(alloc, Instr::Call { rel: 16 }, &only)?);
-    // call [rsp]
+    let store = PartEnd::StoreGo { a: 2, t: 1, to };
+    part(alloc, &lines, store)
+}
+
+// call to 16 bytes after the next instruction
+fn call(alloc: Global) -> Result<bool, AllocError> {
+    let only = pushed(alloc, Target::Place(0x401017))?;
+    is_one(alloc, Instr::Call { rel: 16 }, &only)
+}
+
+// call [rsp]
+fn call_memory(alloc: Global) -> Result<bool, AllocError> {
     let mem = Mem {
         base: Base::Reg(4),
         index: None,
@@ -569,17 +560,60 @@ fn transfers(rt: HostRuntime) -> Result<(), Fail> {
         disp: 0,
     };
     let first = part(alloc, &[ea(0, Some(RSP), 0)], load(W64, 3))?;
-    let loaded = PartEnd::StoreGo {
-        a: 2,
-        t: 1,
-        to: Target::Temp(3),
-    };
-    let last = part(alloc, &lines, loaded)?;
+    let last = pushed(alloc, Target::Temp(3))?;
     let src = Operand::Mem(mem);
-    assert!(rt; is_two(alloc, Instr::CallTo { src }, &first, &last)?);
-    // ret 8
+    is_two(alloc, Instr::CallTo { src }, &first, &last)
+}
+
+// ret 8
+fn ret(alloc: Global) -> Result<bool, AllocError> {
     let first = part(alloc, &[get(W64, 0, RSP)], load(W64, 1))?;
+    let go = PartEnd::Go {
+        to: Target::Temp(1),
+    };
     let last = part(alloc, &[ea(2, Some(RSP), 16), put(W64, RSP, 2)], go)?;
-    assert!(rt; is_two(alloc, Instr::Ret { extra: 8 }, &first, &last)?);
+    is_two(alloc, Instr::Ret { extra: 8 }, &first, &last)
+}
+
+#[test]
+fn operands_in_memory(rt: HostRuntime) -> Result<(), Fail> {
+    let alloc = rt.alloc();
+    assert!(rt; adc(alloc)?);
+    assert!(rt; cmp(alloc)?);
+    assert!(rt; dec(alloc)?);
+    assert!(rt; shl(alloc)?);
+    assert!(rt; imul(alloc)?);
+    assert!(rt; idiv(alloc)?);
+    assert!(rt; mov(alloc)?);
+    assert!(rt; movzx(alloc)?);
+    assert!(rt; sete(alloc)?);
+    Ok(())
+}
+
+#[test]
+fn stack_and_transfers(rt: HostRuntime) -> Result<(), Fail> {
+    let alloc = rt.alloc();
+    assert!(rt; push_rsp(alloc)?);
+    assert!(rt; pop(alloc, RSP)?);
+    assert!(rt; pop(alloc, RCX)?);
+    assert!(rt; leave(alloc)?);
+    assert!(rt; jb(alloc)?);
+    assert!(rt; jmp_rax(alloc)?);
+    assert!(rt; call(alloc)?);
+    assert!(rt; call_memory(alloc)?);
+    assert!(rt; ret(alloc)?);
+    Ok(())
+}
+
+#[test]
+fn locked_steps(rt: HostRuntime) -> Result<(), Fail> {
+    let alloc = rt.alloc();
+    assert!(rt; lock_inc(alloc)?);
+    assert!(rt; lock_sub(alloc)?);
+    assert!(rt; xadd(alloc)?);
+    assert!(rt; xchg(alloc)?);
+    assert!(rt; cmpxchg(alloc)?);
+    assert!(rt; cmpxchg_byte(alloc)?);
+    assert!(rt; mfence(alloc)?);
     Ok(())
 }
