@@ -15,6 +15,8 @@ pub mod laws;
 mod locked;
 mod memory;
 mod parts;
+#[cfg(test)]
+mod run_tests;
 mod stack;
 #[cfg(test)]
 mod tests;

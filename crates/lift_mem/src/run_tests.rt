@@ -106,10 +106,7 @@ fn run(alloc: Global, state: &mut Virtual, memory: &mut Tso) -> Result<bool, All
 }
 
 // memory before; then memory, rax and the zero flag
-const ROWS: [(u8, u64, u64, bool); 2] = [
-    (7, 7, 7, false),
-    (5, 9, 0xffff_ffff_0000_0005, true),
-];
+const ROWS: [(u8, u64, u64, bool); 2] = [(7, 7, 7, false), (5, 9, 0xffff_ffff_0000_0005, true)];
 
 #[test]
 fn compare_and_exchange(rt: HostRuntime) -> Result<(), Fail> {
