@@ -137,8 +137,8 @@ unfolding first_access
 cmpxchg_law w m r next inside fit =
     lifts (Cmpxchg w m r) next
     (λ a b c d e f g h s mid numbers.
-        cmpxchg_follows (Cmpxchg w m r) next w 1 (address s next m) 3 2 (get s w 0) (value s w r) (address_line next m ∷ (reads w r 2 ++ (Get (ir_width w) 3 0 ∷ [])))
-        (alone (flag_lines all_five family.Sub w 3 (Some 1) ++ (Cond 4 E ∷ accumulator_ops w)) ends.Tick) s (eight a b c d e f g h) (eight (address s next m) b (value s w r) (get s w 0) e f g h) mid numbers refl
-        (operands_do next w m r (Get (ir_width w) 3 0 ∷ []) a b c d e f g h s fit.fits (not_loaded s w r c fit.no_memory) ∙ get_do w 3 0 (eight (address s next m) b (value s w r) d e f g h) s.flags s)
-        refl refl refl refl
-        (λ x l. cmpxchg_ends w m r next (address s next m) x (value s w r) f g h e s l numbers))
+    cmpxchg_follows (Cmpxchg w m r) next w 1 (address s next m) 3 2 (get s w 0) (value s w r) (address_line next m ∷ (reads w r 2 ++ (Get (ir_width w) 3 0 ∷ [])))
+    (alone (flag_lines all_five family.Sub w 3 (Some 1) ++ (Cond 4 E ∷ accumulator_ops w)) ends.Tick) s (eight a b c d e f g h) (eight (address s next m) b (value s w r) (get s w 0) e f g h) mid numbers refl
+    (operands_do next w m r (Get (ir_width w) 3 0 ∷ []) a b c d e f g h s fit.fits (not_loaded s w r c fit.no_memory) ∙ get_do w 3 0 (eight (address s next m) b (value s w r) d e f g h) s.flags s)
+    refl refl refl refl
+    (λ x l. cmpxchg_ends w m r next (address s next m) x (value s w r) f g h e s l numbers))

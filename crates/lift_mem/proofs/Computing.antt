@@ -41,9 +41,9 @@ alu_to_memory op w m src next fit none =
     let i = Alu op w (operand.Mem m) src in
     lifts i next
     (λ a b c d e f g h s mid numbers.
-        rw (no_loads next w src 2 none)
-        (loads_follows i next w m 1 (alu_parts op w (operand.Mem m) src) s (eight a b c d e f g h) mid numbers refl refl
-        (λ x l. alu_ends op w (operand.Mem m) src next (address s next m) x c d e f g h (having s x) fit (λ t. sym (having_value w m s x l)) (not_loaded (having s x) w src c none) (sym (having_address next m s x)) numbers (resumed i next (having s x) x refl))))
+    rw (no_loads next w src 2 none)
+    (loads_follows i next w m 1 (alu_parts op w (operand.Mem m) src) s (eight a b c d e f g h) mid numbers refl refl
+    (λ x l. alu_ends op w (operand.Mem m) src next (address s next m) x c d e f g h (having s x) fit (λ t. sym (having_value w m s x l)) (not_loaded (having s x) w src c none) (sym (having_address next m s x)) numbers (resumed i next (having s x) x refl))))
 
 alu_from_memory : (op : AluOp) (w : Width) (dst : Operand) (m : Mem) (next : ℕ) → PairFits w dst (operand.Mem m) → is_memory dst ≡ false → Lifts (Alu op w dst (operand.Mem m)) next
 unfolding first_access
@@ -51,9 +51,9 @@ alu_from_memory op w dst m next fit none =
     let i = Alu op w dst (operand.Mem m) in
     lifts i next
     (λ a b c d e f g h s mid numbers.
-        rw (no_loads next w dst 1 none)
-        (loads_follows i next w m 2 (alu_parts op w dst (operand.Mem m)) s (eight a b c d e f g h) mid numbers refl (rw (second_in_memory dst m none))
-        (λ x l. alu_ends op w dst (operand.Mem m) next (address s next m) b x d e f g h (having s x) fit (not_loaded (having s x) w dst b none) (λ t. sym (having_value w m s x l)) (is_at_none next (having s x) (eight (address s next m) b x d e f g h) dst none) numbers (resumed i next (having s x) x refl))))
+    rw (no_loads next w dst 1 none)
+    (loads_follows i next w m 2 (alu_parts op w dst (operand.Mem m)) s (eight a b c d e f g h) mid numbers refl (rw (second_in_memory dst m none))
+    (λ x l. alu_ends op w dst (operand.Mem m) next (address s next m) b x d e f g h (having s x) fit (not_loaded (having s x) w dst b none) (λ t. sym (having_value w m s x l)) (is_at_none next (having s x) (eight (address s next m) b x d e f g h) dst none) numbers (resumed i next (having s x) x refl))))
 
 -- ---- one operand
 
@@ -63,8 +63,8 @@ one_in_memory op w m next fit =
     let i = One op w (operand.Mem m) in
     lifts i next
     (λ a b c d e f g h s mid numbers.
-        loads_follows i next w m 1 (one_parts op w (operand.Mem m)) s (eight a b c d e f g h) mid numbers refl refl
-        (λ x l. one_ends op w (operand.Mem m) next (address s next m) x c d e f g h (having s x) fit (λ t. sym (having_value w m s x l)) (sym (having_address next m s x)) numbers (resumed i next (having s x) x refl)))
+    loads_follows i next w m 1 (one_parts op w (operand.Mem m)) s (eight a b c d e f g h) mid numbers refl refl
+    (λ x l. one_ends op w (operand.Mem m) next (address s next m) x c d e f g h (having s x) fit (λ t. sym (having_value w m s x l)) (sym (having_address next m s x)) numbers (resumed i next (having s x) x refl)))
 
 -- ---- shifts
 
@@ -74,8 +74,8 @@ shift_in_memory op w m count next fit_op fit =
     let i = Shift op w (operand.Mem m) count in
     lifts i next
     (λ a b c d e f g h s mid numbers.
-        loads_follows i next w m 1 (shift_parts op w (operand.Mem m) count) s (eight a b c d e f g h) mid numbers refl refl
-        (λ x l. shift_ends op w (operand.Mem m) count next (address s next m) x c d e f g h (having s x) fit_op fit (λ t. sym (having_value w m s x l)) (sym (having_address next m s x)) numbers (resumed i next (having s x) x refl)))
+    loads_follows i next w m 1 (shift_parts op w (operand.Mem m) count) s (eight a b c d e f g h) mid numbers refl refl
+    (λ x l. shift_ends op w (operand.Mem m) count next (address s next m) x c d e f g h (having s x) fit_op fit (λ t. sym (having_value w m s x l)) (sym (having_address next m s x)) numbers (resumed i next (having s x) x refl)))
 
 -- ---- products and quotients
 
@@ -85,8 +85,8 @@ mul_from_memory signed w m next wide fit =
     let i = Mul signed w (operand.Mem m) in
     lifts i next
     (λ a b c d e f g h s mid numbers.
-        loads_follows i next w m 1 (alone (reads w (operand.Mem m) 1 ++ mul_ops signed w) ends.Tick) s (eight a b c d e f g h) mid numbers refl refl
-        (λ x l. mul_ends signed w (operand.Mem m) next (address s next m) x c d e f g h (having s x) wide fit.fits (λ t. sym (having_value w m s x l)) numbers (resumed i next (having s x) x refl)))
+    loads_follows i next w m 1 (alone (reads w (operand.Mem m) 1 ++ mul_ops signed w) ends.Tick) s (eight a b c d e f g h) mid numbers refl refl
+    (λ x l. mul_ends signed w (operand.Mem m) next (address s next m) x c d e f g h (having s x) wide fit.fits (λ t. sym (having_value w m s x l)) numbers (resumed i next (having s x) x refl)))
 
 pub div_by_memory : (signed : Bool) (w : Width) (m : Mem) (next : ℕ) → IsWide w → PlaceFits w (operand.Mem m) → Lifts (Div signed w (operand.Mem m)) next
 unfolding first_access
@@ -94,8 +94,8 @@ div_by_memory signed w m next wide fit =
     let i = Div signed w (operand.Mem m) in
     lifts i next
     (λ a b c d e f g h s mid numbers.
-        loads_follows i next w m 1 (alone (reads w (operand.Mem m) 1 ++ zero_lines all_five) (ends.Divide signed (ir_width w) 1)) s (eight a b c d e f g h) mid numbers refl refl
-        (λ x l. div_ends signed w (operand.Mem m) next (address s next m) x c d e f g h (having s x) wide fit.fits (λ t. sym (having_value w m s x l)) numbers (resumed i next (having s x) x refl)))
+    loads_follows i next w m 1 (alone (reads w (operand.Mem m) 1 ++ zero_lines all_five) (ends.Divide signed (ir_width w) 1)) s (eight a b c d e f g h) mid numbers refl refl
+    (λ x l. div_ends signed w (operand.Mem m) next (address s next m) x c d e f g h (having s x) wide fit.fits (λ t. sym (having_value w m s x l)) numbers (resumed i next (having s x) x refl)))
 
 -- the parts of IMUL after its loads, where x is in t1 and y in t2
 abbrev imul_last : Width → ℕ → Operand → Operand → List Part
@@ -120,8 +120,8 @@ imul_number w dst m n next wide fit_dst fit =
     let i = Imul w dst (operand.Mem m) (operand.Imm n) in
     lifts i next
     (λ a b c d e f g h s mid numbers.
-        imul_memory_first i w dst m (operand.Imm n) next a b c d e f g h s wide fit_dst fit.target.fits fit.source refl mid numbers refl
-        (λ t. imul_wants w dst (operand.Mem m) (operand.Imm n) next t wide ∙ ap (low_multiplied t next w dst) (smul_comm (bits_in w) (value t w (operand.Mem m)) (value t w (operand.Imm n)))))
+    imul_memory_first i w dst m (operand.Imm n) next a b c d e f g h s wide fit_dst fit.target.fits fit.source refl mid numbers refl
+    (λ t. imul_wants w dst (operand.Mem m) (operand.Imm n) next t wide ∙ ap (low_multiplied t next w dst) (smul_comm (bits_in w) (value t w (operand.Mem m)) (value t w (operand.Imm n)))))
 
 -- the second operand is in memory
 imul_from_memory : (w : Width) (dst : ℕ) (y : Operand) (m : Mem) (next : ℕ) → IsWide w → dst < 16 → PairFits w y (operand.Mem m) → is_memory y ≡ false → Lifts (Imul w dst y (operand.Mem m)) next
@@ -130,8 +130,8 @@ imul_from_memory w dst y m next wide fit_dst fit none =
     let i = Imul w dst y (operand.Mem m) in
     lifts i next
     (λ a b c d e f g h s mid numbers.
-        rw (no_loads next w y 2 none)
-        (imul_memory_first i w dst m y next a b c d e f g h s wide fit_dst fit.source fit.target.fits none mid numbers (rw (second_in_memory y m none)) (λ t. imul_wants w dst y (operand.Mem m) next t wide)))
+    rw (no_loads next w y 2 none)
+    (imul_memory_first i w dst m y next a b c d e f g h s wide fit_dst fit.source fit.target.fits none mid numbers (rw (second_in_memory y m none)) (λ t. imul_wants w dst y (operand.Mem m) next t wide)))
 
 -- the first operand is in memory, and the second is a register
 imul_of_memory : (w : Width) (dst : ℕ) (m : Mem) (y : Operand) (next : ℕ) → IsWide w → dst < 16 → PairFits w (operand.Mem m) y → is_memory y ≡ false → is_immediate y ≡ false → Lifts (Imul w dst (operand.Mem m) y) next
@@ -140,8 +140,8 @@ imul_of_memory w dst m y next wide fit_dst fit none place =
     let i = Imul w dst (operand.Mem m) y in
     lifts i next
     (λ a b c d e f g h s mid numbers.
-        rw (place, no_loads next w y 1 none)
-        (imul_memory_second i w dst y m next a b c d e f g h s wide fit_dst fit.source fit.target.fits none mid numbers refl (λ t. imul_wants w dst (operand.Mem m) y next t wide)))
+    rw (place, no_loads next w y 1 none)
+    (imul_memory_second i w dst y m next a b c d e f g h s wide fit_dst fit.source fit.target.fits none mid numbers refl (λ t. imul_wants w dst (operand.Mem m) y next t wide)))
 
 -- ---- each group
 

@@ -9,3 +9,4 @@ pub mod Pushed
 pub mod Transfers
 pub mod Statements
 pub mod Groups
+pub mod TwoParts

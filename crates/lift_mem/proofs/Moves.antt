@@ -28,8 +28,8 @@ mov_to_memory w m src next fit none =
     let i = Mov w (operand.Mem m) src in
     lifts i next
     (λ a b c d e f g h s mid numbers.
-        rw (no_loads next w src 1 none)
-        (mov_ends w (operand.Mem m) src next a b c d e f g h s fit (not_loaded s w src b none) numbers (wants_end i next s mid (rw (outside_memory src none)))))
+    rw (no_loads next w src 1 none)
+    (mov_ends w (operand.Mem m) src next a b c d e f g h s fit (not_loaded s w src b none) numbers (wants_end i next s mid (rw (outside_memory src none)))))
 
 pub mov_from_memory : (w : Width) (dst : Operand) (m : Mem) (next : ℕ) → PairFits w dst (operand.Mem m) → Lifts (Mov w dst (operand.Mem m)) next
 unfolding first_access
@@ -37,8 +37,8 @@ mov_from_memory w dst m next fit =
     let i = Mov w dst (operand.Mem m) in
     lifts i next
     (λ a b c d e f g h s mid numbers.
-        loads_follows i next w m 1 (given_at (addressed next dst ++ reads w (operand.Mem m) 1) w dst 1) s (eight a b c d e f g h) mid numbers refl refl
-        (λ x l. mov_ends w dst (operand.Mem m) next (address s next m) x c d e f g h (having s x) fit (λ t. sym (having_value w m s x l)) numbers (resumed i next (having s x) x refl)))
+    loads_follows i next w m 1 (given_at (addressed next dst ++ reads w (operand.Mem m) 1) w dst 1) s (eight a b c d e f g h) mid numbers refl refl
+    (λ x l. mov_ends w dst (operand.Mem m) next (address s next m) x c d e f g h (having s x) fit (λ t. sym (having_value w m s x l)) numbers (resumed i next (having s x) x refl)))
 
 -- ---- extensions
 
@@ -48,8 +48,8 @@ zx_law from w dst m next wider fit_dst fit =
     let i = Zx from w dst (operand.Mem m) in
     lifts i next
     (λ a b c d e f g h s mid numbers.
-        loads_follows i next from m 1 (zero_extended_to from w (operand.Mem m) dst) s (eight a b c d e f g h) mid numbers refl refl
-        (λ x l. zero_extended_ends from w (operand.Mem m) dst i next (address s next m) x c d e f g h (having s x) wider fit_dst fit.fits (λ t. sym (having_value from m s x l)) numbers (resumed i next (having s x) x refl)))
+    loads_follows i next from m 1 (zero_extended_to from w (operand.Mem m) dst) s (eight a b c d e f g h) mid numbers refl refl
+    (λ x l. zero_extended_ends from w (operand.Mem m) dst i next (address s next m) x c d e f g h (having s x) wider fit_dst fit.fits (λ t. sym (having_value from m s x l)) numbers (resumed i next (having s x) x refl)))
 
 pub sx_law : (from w : Width) (dst : ℕ) (m : Mem) (next : ℕ) → Widens from w → dst < 16 → PlaceFits from (operand.Mem m) → Lifts (Sx from w dst (operand.Mem m)) next
 unfolding first_access finished
@@ -57,8 +57,8 @@ sx_law from w dst m next wider fit_dst fit =
     let i = Sx from w dst (operand.Mem m) in
     lifts i next
     (λ a b c d e f g h s mid numbers.
-        loads_follows i next from m 1 (sign_extended_to from w (operand.Mem m) dst) s (eight a b c d e f g h) mid numbers refl refl
-        (λ x l. sign_extended_ends from w (operand.Mem m) dst i next (address s next m) x c d e f g h (having s x) (widens_lt from w wider) (widens_le from w wider) fit_dst fit.fits (λ t. sym (having_value from m s x l)) numbers (resumed i next (having s x) x refl)))
+    loads_follows i next from m 1 (sign_extended_to from w (operand.Mem m) dst) s (eight a b c d e f g h) mid numbers refl refl
+    (λ x l. sign_extended_ends from w (operand.Mem m) dst i next (address s next m) x c d e f g h (having s x) (widens_lt from w wider) (widens_le from w wider) fit_dst fit.fits (λ t. sym (having_value from m s x l)) numbers (resumed i next (having s x) x refl)))
 
 -- ---- SETcc and CMOVcc
 
@@ -75,5 +75,5 @@ cmov_law kind w dst m next fit_dst fit =
     let i = Cmov kind w dst (operand.Mem m) in
     lifts i next
     (λ a b c d e f g h s mid numbers.
-        loads_follows i next w m 1 (cmov_parts kind w dst (operand.Mem m)) s (eight a b c d e f g h) mid numbers refl refl
-        (λ x l. cmov_ends kind w dst (operand.Mem m) next (address s next m) x c d e f g h (having s x) fit_dst fit.fits (λ t. sym (having_value w m s x l)) numbers (resumed i next (having s x) x refl)))
+    loads_follows i next w m 1 (cmov_parts kind w dst (operand.Mem m)) s (eight a b c d e f g h) mid numbers refl refl
+    (λ x l. cmov_ends kind w dst (operand.Mem m) next (address s next m) x c d e f g h (having s x) fit_dst fit.fits (λ t. sym (having_value w m s x l)) numbers (resumed i next (having s x) x refl)))

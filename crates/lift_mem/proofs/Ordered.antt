@@ -55,18 +55,18 @@ lock_alu op kind changed w m src next is by same fit none =
     let i = LockAlu op w m src in
     lifts i next
     (λ a b c d e f g h s mid numbers.
-        let at = address s next m in
-        let v = value s w src in
-        let lines = flag_lines all_five (alu_family op) w 1 (Some 2) in
-        rw is
-        (locked_follows i next w 1 at 2 kind (changed v) (address_line next m ∷ reads w src 2) (alone lines ends.Tick) s (eight a b c d e f g h) (eight at b v d e f g h) mid numbers refl
-        (operand_do next w m src 2 a b c d e f g h s fit none) refl (same v) (ap (locking s next w m) (by v))
-        (λ x l.
-            let t = having s x in
-            let flags = (alu op (bits_in w) x v s.flags).flags in
-            private_follows i next lines (virtual s.regs (eight at x v d e f g h) s.flags) t (with_flags t flags) (eight at x v d e f g h)
-            (flags_do all_five (alu_family op) w 1 (Some 2) s.regs (eight at x v d e f g h) s.flags ∙ ap (virtual s.regs (eight at x v d e f g h)) (alu_flags op (bits_in w) x v s.flags))
-            (resumed i next t x refl ∙ lock_alu_wants op w m src next x s l none) numbers refl)))
+    let at = address s next m in
+    let v = value s w src in
+    let lines = flag_lines all_five (alu_family op) w 1 (Some 2) in
+    rw is
+    (locked_follows i next w 1 at 2 kind (changed v) (address_line next m ∷ reads w src 2) (alone lines ends.Tick) s (eight a b c d e f g h) (eight at b v d e f g h) mid numbers refl
+    (operand_do next w m src 2 a b c d e f g h s fit none) refl (same v) (ap (locking s next w m) (by v))
+    (λ x l.
+    let t = having s x in
+    let flags = (alu op (bits_in w) x v s.flags).flags in
+    private_follows i next lines (virtual s.regs (eight at x v d e f g h) s.flags) t (with_flags t flags) (eight at x v d e f g h)
+    (flags_do all_five (alu_family op) w 1 (Some 2) s.regs (eight at x v d e f g h) s.flags ∙ ap (virtual s.regs (eight at x v d e f g h)) (alu_flags op (bits_in w) x v s.flags))
+    (resumed i next t x refl ∙ lock_alu_wants op w m src next x s l none) numbers refl)))
 
 pub lock_alu_law : (op : AluOp) (w : Width) (m : Mem) (src : Operand) (next : ℕ) → CanLock op → OperandFits w src → is_memory src ≡ false → Lifts (LockAlu op w m src) next
 lock_alu_law alu_op.Add w m src next can fit none = lock_alu alu_op.Add lock.Add (λ v. change.Add v) w m src next refl (λ v. refl) (λ v. refl) fit none
@@ -91,18 +91,18 @@ lock_one op kind changed w m next is some by same =
     let i = LockOne op w m in
     lifts i next
     (λ a b c d e f g h s mid numbers.
-        let at = address s next m in
-        let lines = flag_lines all_but_carry (one_family op) w 1 None in
-        rw is
-        (locked_follows i next w 1 at 2 kind changed (address_line next m ∷ Const (ir_width w) 2 1 ∷ []) (alone lines ends.Tick) s (eight a b c d e f g h) (eight at b 1 d e f g h) mid numbers refl
-        (ap (did_all (Const (ir_width w) 2 1 ∷ [])) (address_is next m s.regs (eight a b c d e f g h) s.flags s refl)) refl same (ap (locking s next w m) by)
-        (λ x l.
-            let t = having s x in
-            let flags = (one op (bits_in w) x s.flags).flags in
-            let temps = eight at x 1 d e f g h in
-            private_follows i next lines (virtual s.regs temps s.flags) t (with_flags t flags) temps
-            (ap (λ fs. did_all (flag_lines fs (one_family op) w 1 None) (virtual s.regs temps s.flags)) (sym some) ∙ flags_do (one_flags op) (one_family op) w 1 None s.regs temps s.flags ∙ ap (virtual s.regs temps) (one_flags_are op (bits_in w) x s.flags))
-            (resumed i next t x refl ∙ lock_one_wants op w m next x s l) numbers refl)))
+    let at = address s next m in
+    let lines = flag_lines all_but_carry (one_family op) w 1 None in
+    rw is
+    (locked_follows i next w 1 at 2 kind changed (address_line next m ∷ Const (ir_width w) 2 1 ∷ []) (alone lines ends.Tick) s (eight a b c d e f g h) (eight at b 1 d e f g h) mid numbers refl
+    (ap (did_all (Const (ir_width w) 2 1 ∷ [])) (address_is next m s.regs (eight a b c d e f g h) s.flags s refl)) refl same (ap (locking s next w m) by)
+    (λ x l.
+    let t = having s x in
+    let flags = (one op (bits_in w) x s.flags).flags in
+    let temps = eight at x 1 d e f g h in
+    private_follows i next lines (virtual s.regs temps s.flags) t (with_flags t flags) temps
+    (ap (λ fs. did_all (flag_lines fs (one_family op) w 1 None) (virtual s.regs temps s.flags)) (sym some) ∙ flags_do (one_flags op) (one_family op) w 1 None s.regs temps s.flags ∙ ap (virtual s.regs temps) (one_flags_are op (bits_in w) x s.flags))
+    (resumed i next t x refl ∙ lock_one_wants op w m next x s l) numbers refl)))
 
 pub lock_one_law : (op : OneOp) (w : Width) (m : Mem) (next : ℕ) → CanLockOne op → Lifts (LockOne op w m) next
 lock_one_law one_op.Inc w m next can = lock_one one_op.Inc lock.Add (change.Add 1) w m next refl refl refl refl
@@ -122,21 +122,21 @@ xadd_law w m r next fit =
     let i = Xadd w m r in
     lifts i next
     (λ a b c d e f g h s mid numbers.
-        let at = address s next m in
-        let v = value s w r in
-        let lines = flag_lines all_five family.Add w 1 (Some 2) in
-        locked_follows i next w 1 at 2 lock.Add (change.Add v) (address_line next m ∷ reads w r 2) (alone (lines ++ puts w r 1) ends.Tick) s (eight a b c d e f g h) (eight at b v d e f g h) mid numbers refl
-        (operand_do next w m r 2 a b c d e f g h s fit.fits fit.no_memory) refl refl refl
-        (λ x l.
-            let t = having s x in
-            let flags = (add_of (bits_in w) x v s.flags).flags in
-            let temps = eight at x v d e f g h in
-            let sum = ap (λ y. want.Private (going_to (with_flags (assigned t w r x) (add_of (bits_in w) x y s.flags).flags) next)) (value_after w r s x fit.no_memory) in
-            private_follows i next (lines ++ puts w r 1) (virtual s.regs temps s.flags) t (with_flags (assigned t w r x) flags) temps
-            (after lines (puts w r 1) (virtual s.regs temps s.flags) (virtual s.regs temps flags)
-                (flags_do all_five family.Add w 1 (Some 2) s.regs temps s.flags ∙ ap (virtual s.regs temps) (alu_flags alu_op.Add (bits_in w) x v s.flags))
-            ∙ puts_do w r 1 temps flags t fit.fits l)
-            (resumed i next t x refl ∙ xadd_wants w m r next x s l ∙ sum) (assigned_numbers w r x t l numbers) refl))
+    let at = address s next m in
+    let v = value s w r in
+    let lines = flag_lines all_five family.Add w 1 (Some 2) in
+    locked_follows i next w 1 at 2 lock.Add (change.Add v) (address_line next m ∷ reads w r 2) (alone (lines ++ puts w r 1) ends.Tick) s (eight a b c d e f g h) (eight at b v d e f g h) mid numbers refl
+    (operand_do next w m r 2 a b c d e f g h s fit.fits fit.no_memory) refl refl refl
+    (λ x l.
+    let t = having s x in
+    let flags = (add_of (bits_in w) x v s.flags).flags in
+    let temps = eight at x v d e f g h in
+    let sum = ap (λ y. want.Private (going_to (with_flags (assigned t w r x) (add_of (bits_in w) x y s.flags).flags) next)) (value_after w r s x fit.no_memory) in
+    private_follows i next (lines ++ puts w r 1) (virtual s.regs temps s.flags) t (with_flags (assigned t w r x) flags) temps
+    (after lines (puts w r 1) (virtual s.regs temps s.flags) (virtual s.regs temps flags)
+    (flags_do all_five family.Add w 1 (Some 2) s.regs temps s.flags ∙ ap (virtual s.regs temps) (alu_flags alu_op.Add (bits_in w) x v s.flags))
+    ∙ puts_do w r 1 temps flags t fit.fits l)
+    (resumed i next t x refl ∙ xadd_wants w m r next x s l ∙ sum) (assigned_numbers w r x t l numbers) refl))
 
 -- ---- XCHG with memory
 
@@ -157,11 +157,11 @@ exchange_law w m r next fit =
     let i = Xchg w (operand.Mem m) r in
     lifts i next
     (λ a b c d e f g h s mid numbers.
-        let at = address s next m in
-        let v = value s w r in
-        locked_follows i next w 2 at 1 lock.Xchg (change.Xchg v) (address_line next m ∷ reads w r 1) (given_at [] w r 2) s (eight a b c d e f g h) (eight at v c d e f g h) mid numbers refl
-        (operand_do next w m r 1 a b c d e f g h s fit.fits fit.no_memory) refl refl refl
-        (λ x l.
-            let t = having s x in
-            given_follows i next w r 2 [] (virtual s.regs (eight at v x d e f g h) s.flags) t t (eight at v x d e f g h) refl l (record { fits = fit.fits; place = fit.place }) (is_at_none next t (eight at v x d e f g h) r fit.no_memory)
-            (resumed i next t x refl ∙ exchanged_wants w m r next x s l ∙ given_register w r next x t fit.no_memory fit.place) numbers refl))
+    let at = address s next m in
+    let v = value s w r in
+    locked_follows i next w 2 at 1 lock.Xchg (change.Xchg v) (address_line next m ∷ reads w r 1) (given_at [] w r 2) s (eight a b c d e f g h) (eight at v c d e f g h) mid numbers refl
+    (operand_do next w m r 1 a b c d e f g h s fit.fits fit.no_memory) refl refl refl
+    (λ x l.
+    let t = having s x in
+    given_follows i next w r 2 [] (virtual s.regs (eight at v x d e f g h) s.flags) t t (eight at v x d e f g h) refl l (record { fits = fit.fits; place = fit.place }) (is_at_none next t (eight at v x d e f g h) r fit.no_memory)
+    (resumed i next t x refl ∙ exchanged_wants w m r next x s l ∙ given_register w r next x t fit.no_memory fit.place) numbers refl))

@@ -46,8 +46,8 @@ unfolding first_access
 push_plain src next fit none =
     lifts (Push src) next
     (λ a b c d e f g h s mid numbers.
-        rw (no_loads next W64 src 1 none)
-        (push_ends src next a b c d e f g h s fit (not_loaded s W64 src b none) numbers (wants_end (Push src) next s mid (rw (outside_memory src none)))))
+    rw (no_loads next W64 src 1 none)
+    (push_ends src next a b c d e f g h s fit (not_loaded s W64 src b none) numbers (wants_end (Push src) next s mid (rw (outside_memory src none)))))
 
 push_memory : (m : Mem) (next : ℕ) → OperandFits W64 (operand.Mem m) → Lifts (Push (operand.Mem m)) next
 unfolding first_access
@@ -55,8 +55,8 @@ push_memory m next fit =
     let i = Push (operand.Mem m) in
     lifts i next
     (λ a b c d e f g h s mid numbers.
-        loads_follows i next W64 m 1 (alone (reads W64 (operand.Mem m) 1 ++ pushed) (ends.Store ir.W64 2 1)) s (eight a b c d e f g h) mid numbers refl refl
-        (λ x l. push_ends (operand.Mem m) next (address s next m) x c d e f g h (having s x) fit (λ t. sym (having_value W64 m s x l)) numbers (resumed i next (having s x) x refl)))
+    loads_follows i next W64 m 1 (alone (reads W64 (operand.Mem m) 1 ++ pushed) (ends.Store ir.W64 2 1)) s (eight a b c d e f g h) mid numbers refl refl
+    (λ x l. push_ends (operand.Mem m) next (address s next m) x c d e f g h (having s x) fit (λ t. sym (having_value W64 m s x l)) numbers (resumed i next (having s x) x refl)))
 
 pub push_law : (src : Operand) (next : ℕ) → OperandFits W64 src → Lifts (Push src) next
 push_law (operand.Reg r) next fit = push_plain (operand.Reg r) next fit refl
@@ -75,11 +75,11 @@ popped_follows i next r dst a b c d e f g h s fit mid numbers access end =
     load_follows i next W64 1 (reg s r) (Get ir.W64 0 r ∷ []) (alone (stack_at r 8 ++ (Put ir.W64 dst 1 ∷ [])) ends.Tick) s (eight a b c d e f g h) (eight at b c d e f g h) mid numbers refl
     (get_do W64 0 r (eight a b c d e f g h) s.flags s) (whole_register s r numbers) access
     (λ x l.
-        let t = having s x in
-        given_follows i next W64 (operand.Reg dst) 1 (stack_at r 8) (virtual s.regs (eight at x c d e f g h) s.flags) t (put t W64 4 top) (eight at x top d e f g h)
-        (stack_do r 8 at x c d e f g h t) l (record { fits = fit; place = refl }) tt
-        (resumed i next t x refl ∙ end t ∙ ap (given (put t W64 4 top) next W64 (operand.Reg dst)) (having_loaded W64 s x l))
-        (put_numbers 4 top t (sum_lt (reg s r) 8) numbers) refl)
+    let t = having s x in
+    given_follows i next W64 (operand.Reg dst) 1 (stack_at r 8) (virtual s.regs (eight at x c d e f g h) s.flags) t (put t W64 4 top) (eight at x top d e f g h)
+    (stack_do r 8 at x c d e f g h t) l (record { fits = fit; place = refl }) tt
+    (resumed i next t x refl ∙ end t ∙ ap (given (put t W64 4 top) next W64 (operand.Reg dst)) (having_loaded W64 s x l))
+    (put_numbers 4 top t (sum_lt (reg s r) 8) numbers) refl)
 
 pub pop_law : (dst next : ℕ) → dst < 16 → Lifts (Pop dst) next
 unfolding first_access finished

@@ -14,7 +14,12 @@ mod flow;
 pub mod laws;
 mod locked;
 mod memory;
+mod parts;
+#[cfg(test)]
+mod run_tests;
 mod stack;
+#[cfg(test)]
+mod tests;
 
 pub use flow::lift_flow;
 pub use memory::lift_memory;

@@ -4,8 +4,9 @@ ghost use Rattle.std.specs.Prelude.{◌≡◌, ◌++◌, ◌∷◌, [], IfOk, So
 ghost use Rattle.machine_model.specs.LiftLines.{ir_width, alone, part, lock_op, lock_one_op, address_line, reads, flag_lines, all_five};
 ghost use Rattle.machine_model.specs.LiftTable.{lifted, accumulator_ops};
 
+use crate::parts::end_alone;
 use ir_syntax::{Cond, Family, LockOp, Op, Part, PartEnd};
-use lift_alu::lines::{address_line, ended, given, push_line, push_put, push_read, Source};
+use lift_alu::lines::{Source, address_line, ended, given, push_line, push_put, push_read};
 use lift_alu::words::{alu_family, ir_width, one_family};
 use std::alloc::{AllocError, Global};
 use x86_forms::{AluOp, Instr, Mem, OneOp, Operand, Width};
@@ -36,7 +37,14 @@ fn lock_one_op(op: OneOp) -> Option<LockOp>
 }
 
 // The address of memory, and an operand outside it in temporary `t`.
-fn operands(alloc: Global, next: u64, mem: Mem, w: Width, operand: Operand, t: u8) -> Result<Vec<Op>, AllocError>
+fn operands(
+    alloc: Global,
+    next: u64,
+    mem: Mem,
+    w: Width,
+    operand: Operand,
+    t: u8,
+) -> Result<Vec<Op>, AllocError>
     ensures { IfOk result (λ ops. ops.items ≡ address_line next mem ∷ reads w operand t) }
 {
     let mut ops = vec![in alloc; address_line(next, mem)]?;
@@ -44,17 +52,14 @@ fn operands(alloc: Global, next: u64, mem: Mem, w: Width, operand: Operand, t: u
     Ok(ops)
 }
 
-// No instruction.
-fn bad_code(alloc: Global) -> Result<Vec<Part>, AllocError>
-    ensures { IfOk result (λ parts. parts.items ≡ alone [] PartEnd.BadCode) }
-{
-    let ops = Vec::new(alloc);
-    let parts = vec![in alloc; ended(ops, PartEnd::BadCode)]?;
-    Ok(parts)
-}
-
 // The locked step with temporary 2, and what comes after it.
-fn locked(alloc: Global, before: Vec<Op>, kind: LockOp, w: Width, after: Vec<Op>) -> Result<Vec<Part>, AllocError>
+fn locked(
+    alloc: Global,
+    before: Vec<Op>,
+    kind: LockOp,
+    w: Width,
+    after: Vec<Op>,
+) -> Result<Vec<Part>, AllocError>
     ensures { IfOk result (λ parts. parts.items ≡ part before.items (PartEnd.Locked kind (ir_width w) 1 0 2) ∷ alone after.items PartEnd.Tick) }
 {
     let step = PartEnd::Locked {
@@ -69,7 +74,14 @@ fn locked(alloc: Global, before: Vec<Op>, kind: LockOp, w: Width, after: Vec<Op>
 }
 
 /// LOCK ADD, OR, AND, SUB and XOR.
-pub fn lock_alu(alloc: Global, next: u64, op: AluOp, w: Width, mem: Mem, src: Operand) -> Result<Vec<Part>, AllocError>
+pub fn lock_alu(
+    alloc: Global,
+    next: u64,
+    op: AluOp,
+    w: Width,
+    mem: Mem,
+    src: Operand,
+) -> Result<Vec<Part>, AllocError>
     ensures { IfOk result (λ parts. parts.items ≡ lifted (Instr.LockAlu op w mem src) next) }
 {
     match lock_op(op) {
@@ -85,12 +97,18 @@ pub fn lock_alu(alloc: Global, next: u64, op: AluOp, w: Width, mem: Mem, src: Op
             source.push_all_five(&mut after)?;
             locked(alloc, before, kind, w, after)
         }
-        None => bad_code(alloc),
+        None => end_alone(alloc, PartEnd::BadCode),
     }
 }
 
 /// LOCK INC and DEC.
-pub fn lock_one(alloc: Global, next: u64, op: OneOp, w: Width, mem: Mem) -> Result<Vec<Part>, AllocError>
+pub fn lock_one(
+    alloc: Global,
+    next: u64,
+    op: OneOp,
+    w: Width,
+    mem: Mem,
+) -> Result<Vec<Part>, AllocError>
     ensures { IfOk result (λ parts. parts.items ≡ lifted (Instr.LockOne op w mem) next) }
 {
     match lock_one_op(op) {
@@ -106,12 +124,18 @@ pub fn lock_one(alloc: Global, next: u64, op: OneOp, w: Width, mem: Mem) -> Resu
             source.push_all_but_carry(&mut after)?;
             locked(alloc, before, kind, w, after)
         }
-        None => bad_code(alloc),
+        None => end_alone(alloc, PartEnd::BadCode),
     }
 }
 
 /// LOCK XADD: the register gets the old value.
-pub fn xadd(alloc: Global, next: u64, w: Width, mem: Mem, reg: Operand) -> Result<Vec<Part>, AllocError>
+pub fn xadd(
+    alloc: Global,
+    next: u64,
+    w: Width,
+    mem: Mem,
+    reg: Operand,
+) -> Result<Vec<Part>, AllocError>
     ensures { IfOk result (λ parts. parts.items ≡ lifted (Instr.Xadd w mem reg) next) }
 {
     let before = operands(alloc, next, mem, w, reg, 2)?;
@@ -128,7 +152,13 @@ pub fn xadd(alloc: Global, next: u64, w: Width, mem: Mem, reg: Operand) -> Resul
 }
 
 /// XCHG with memory: the register gets the old value.
-pub fn exchange(alloc: Global, next: u64, w: Width, mem: Mem, reg: Operand) -> Result<Vec<Part>, AllocError>
+pub fn exchange(
+    alloc: Global,
+    next: u64,
+    w: Width,
+    mem: Mem,
+    reg: Operand,
+) -> Result<Vec<Part>, AllocError>
     ensures { IfOk result (λ parts. parts.items ≡ lifted (Instr.Xchg w (Operand.Mem mem) reg) next) }
 {
     let before = operands(alloc, next, mem, w, reg, 1)?;
@@ -207,7 +237,13 @@ fn compared(alloc: Global, w: Width) -> Result<Vec<Op>, AllocError>
 }
 
 /// LOCK CMPXCHG.
-pub fn cmpxchg(alloc: Global, next: u64, w: Width, mem: Mem, reg: Operand) -> Result<Vec<Part>, AllocError>
+pub fn cmpxchg(
+    alloc: Global,
+    next: u64,
+    w: Width,
+    mem: Mem,
+    reg: Operand,
+) -> Result<Vec<Part>, AllocError>
     ensures { IfOk result (λ parts. parts.items ≡ lifted (Instr.Cmpxchg w mem reg) next) }
 {
     let mut before = operands(alloc, next, mem, w, reg, 2)?;

@@ -3,6 +3,6 @@ use Rattle.lift_mem.proofs.laws.locked_lift.Goals as goal
 
 pub returns : goal.returns
 returns c = record {
-    two_operands = lock_alu_lifts;
-    one_operand = lock_one_lifts
+  two_operands = lock_alu_lifts;
+  one_operand = lock_one_lifts;
 }
