@@ -1,5 +1,5 @@
 -- Every private instruction.
-use Rattle.std.proofs.Common.{◌≡◌, ℕ, true, false}
+use Rattle.std.proofs.Common.{◌≡◌, ℕ}
 use Rattle.x86_forms.specs.declared.instructions.Group.TheVariants as group
 use Rattle.x86_forms.specs.declared.instructions.Instr.{Instr}
 use Rattle.x86_forms.specs.declared.instructions.Instr.TheVariants.{Alu, Mov, Zx, Sx, Lea, One, Mul, Imul, Div, Shift, Widen, Spread, Xchg, Set, Cmov, Nop, Pause, Endbr}

@@ -7,8 +7,8 @@ use Rattle.elf_image.specs.declared.image.Image.{Image}
 use Rattle.machine_model.specs.declared.case.Case.{Case}
 use Rattle.machine_model.specs.declared.first.Instr.{Instr}
 use Rattle.machine_model.specs.declared.first.Instr.TheVariants.{Move, Jump}
-use Rattle.machine_model.specs.declared.journal.Entry.{Entry}
-use Rattle.machine_model.specs.declared.journal.Entry.TheVariants.{Ev, Tick, Over}
+use Rattle.machine_model.specs.declared.first.journal.Entry.{Entry}
+use Rattle.machine_model.specs.declared.first.journal.Entry.TheVariants.{Ev, Tick, Over}
 use Rattle.elf_image.specs.declared.place.Function.{Function}
 use Rattle.elf_image.specs.Layout.{function_at}
 use Rattle.machine_model.specs.First.Code.{is_code_place, is_exit_place, is_exit_of, instr_at, spelled, code_from, next_of}

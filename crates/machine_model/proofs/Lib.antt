@@ -12,3 +12,10 @@ pub mod LiftFollow
 pub mod LiftAlu
 pub mod LiftMoves
 pub mod LiftArith
+pub mod RowLives
+pub mod Walks
+pub mod Independence
+pub mod Costs
+pub mod Gates
+pub mod LiftTypes
+pub mod LiftTyped

@@ -99,9 +99,9 @@ alu_law op w dst src next fit none =
     let no_src = right_false (is_memory dst) (is_memory src) none in
     lifts (Alu op w dst src) next
     (λ a b c d e f g h s mid numbers.
-        let at : IsAt next s (eight a b c d e f g h) dst = is_at_none next s (eight a b c d e f g h) dst no_dst in
-        rw (no_loads next w dst 1 no_dst, no_loads next w src 2 no_src)
-        (alu_ends op w dst src next a b c d e f g h s fit (not_loaded s w dst b no_dst) (not_loaded s w src c no_src) at numbers (quiet (Alu op w dst src) next s none mid)))
+    let at : IsAt next s (eight a b c d e f g h) dst = is_at_none next s (eight a b c d e f g h) dst no_dst in
+    rw (no_loads next w dst 1 no_dst, no_loads next w src 2 no_src)
+    (alu_ends op w dst src next a b c d e f g h s fit (not_loaded s w dst b no_dst) (not_loaded s w src c no_src) at numbers (quiet (Alu op w dst src) next s none mid)))
 
 -- ---- one operand
 
@@ -128,6 +128,6 @@ pub one_law : (op : OneOp) (w : Width) (dst : Operand) (next : ℕ) → PlaceFit
 one_law op w dst next fit none =
     lifts (One op w dst) next
     (λ a b c d e f g h s mid numbers.
-        let at : IsAt next s (eight a b c d e f g h) dst = is_at_none next s (eight a b c d e f g h) dst none in
-        rw (no_loads next w dst 1 none)
-        (one_ends op w dst next a b c d e f g h s fit (not_loaded s w dst b none) at numbers (quiet (One op w dst) next s none mid)))
+    let at : IsAt next s (eight a b c d e f g h) dst = is_at_none next s (eight a b c d e f g h) dst none in
+    rw (no_loads next w dst 1 none)
+    (one_ends op w dst next a b c d e f g h s fit (not_loaded s w dst b none) at numbers (quiet (One op w dst) next s none mid)))

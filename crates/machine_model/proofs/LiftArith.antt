@@ -153,9 +153,9 @@ pub shift_law : (op : ShiftOp) (w : Width) (dst : Operand) (count : Option ℕ) 
 shift_law op w dst count next fit_op fit none =
     lifts (Shift op w dst count) next
     (λ a b c d e f g h s mid numbers.
-        let at : IsAt next s (eight a b c d e f g h) dst = is_at_none next s (eight a b c d e f g h) dst none in
-        rw (no_loads next w dst 1 none)
-        (shift_ends op w dst count next a b c d e f g h s fit_op fit (not_loaded s w dst b none) at numbers (quiet (Shift op w dst count) next s none mid)))
+    let at : IsAt next s (eight a b c d e f g h) dst = is_at_none next s (eight a b c d e f g h) dst none in
+    rw (no_loads next w dst 1 none)
+    (shift_ends op w dst count next a b c d e f g h s fit_op fit (not_loaded s w dst b none) at numbers (quiet (Shift op w dst count) next s none mid)))
 
 -- ---- CDQ and CQO
 
@@ -170,20 +170,20 @@ unfolding finished value
 spread_law w next wide =
     lifts (Spread w) next
     (λ a b c d e f g h s mid numbers.
-        let first = virtual s.regs (eight a b c d e f g h) s.flags in
-        let x = value s w (operand.Reg 0) in
-        let n = bits_in w in
-        let y = spread w x in
-        let less : x < 2 ^ n = value_lt w (operand.Reg 0) s (lit< tt) in
-        let same : (sar_of n x (n - 1) s.flags).value ≡ y = sar_spread w x s.flags wide less in
-        let small : n - 1 < 2 ^ 8 = count_under w in
-        let below : y < 2 ^ n = subst (λ (m : ℕ). m < 2 ^ n) same (result_fits family.Sar n x (n - 1) s.flags (less, small)) in
-        let rest : List Op = Const ir.W8 2 (n - 1) ∷ Calc family.Sar (ir_width w) 3 1 (Some 2) ∷ [] in
-        given_follows (Spread w) next w (operand.Reg 2) 3 (Get (ir_width w) 1 0 ∷ rest) first s s (eight a x (n - 1) y e f g h)
-        (ap (did_all rest) (reads_do w (operand.Reg 0) 1 (eight a b c d e f g h) s.flags s (lit< tt) (not_loaded s w (operand.Reg 0) b refl))
-            ∙ calc_do family.Sar w 3 1 (Some 2) s.regs (eight a x (n - 1) d e f g h) s.flags
-            ∙ ap (λ m. virtual s.regs (eight a x (n - 1) m e f g h) s.flags) same)
-        below (register_fits w 2 (lit< tt)) tt (quiet (Spread w) next s refl mid) numbers refl)
+    let first = virtual s.regs (eight a b c d e f g h) s.flags in
+    let x = value s w (operand.Reg 0) in
+    let n = bits_in w in
+    let y = spread w x in
+    let less : x < 2 ^ n = value_lt w (operand.Reg 0) s (lit< tt) in
+    let same : (sar_of n x (n - 1) s.flags).value ≡ y = sar_spread w x s.flags wide less in
+    let small : n - 1 < 2 ^ 8 = count_under w in
+    let below : y < 2 ^ n = subst (λ (m : ℕ). m < 2 ^ n) same (result_fits family.Sar n x (n - 1) s.flags (less, small)) in
+    let rest : List Op = Const ir.W8 2 (n - 1) ∷ Calc family.Sar (ir_width w) 3 1 (Some 2) ∷ [] in
+    given_follows (Spread w) next w (operand.Reg 2) 3 (Get (ir_width w) 1 0 ∷ rest) first s s (eight a x (n - 1) y e f g h)
+    (ap (did_all rest) (reads_do w (operand.Reg 0) 1 (eight a b c d e f g h) s.flags s (lit< tt) (not_loaded s w (operand.Reg 0) b refl))
+    ∙ calc_do family.Sar w 3 1 (Some 2) s.regs (eight a x (n - 1) d e f g h) s.flags
+    ∙ ap (λ m. virtual s.regs (eight a x (n - 1) m e f g h) s.flags) same)
+    below (register_fits w 2 (lit< tt)) tt (quiet (Spread w) next s refl mid) numbers refl)
 
 -- ---- products
 
@@ -245,7 +245,7 @@ pub mul_law : (signed : Bool) (w : Width) (src : Operand) (next : ℕ) → IsWid
 mul_law signed w src next wide fit none =
     lifts (Mul signed w src) next
     (λ a b c d e f g h s mid numbers.
-        rw (no_loads next w src 1 none) (mul_ends signed w src next a b c d e f g h s wide fit.fits (not_loaded s w src b none) numbers (quiet (Mul signed w src) next s none mid)))
+    rw (no_loads next w src 1 none) (mul_ends signed w src next a b c d e f g h s wide fit.fits (not_loaded s w src b none) numbers (quiet (Mul signed w src) next s none mid)))
 
 -- the first operand is in t1, the second in t2
 pub imul_ends : (w : Width) (dst : ℕ) (x y : Operand) (i : Instr) (next a b c d e f g h : ℕ) (s : Cpu) → IsWide w → dst < 16 → OperandFits w x → OperandFits w y → WasLoaded s w x b → WasLoaded s w y c → Numbers s.regs → want_of i next s ≡ low_multiplied s next w dst (smul_of (bits_in w) (value s w y) (value s w x)) → Follows i next (given_at (both_read w x y ++ (Calc family.Mul (ir_width w) 3 2 (Some 1) ∷ product_lines true w)) w (operand.Reg dst) 3) (virtual s.regs (eight a b c d e f g h) s.flags) s Onward
@@ -262,9 +262,9 @@ imul_ends w dst x y i next a b c d e f g h s wide fit_dst fit_x fit_y r t number
     let temps = eight a u v p.low e f g h in
     given_follows i next w (operand.Reg dst) 3 (both_read w x y ++ (Calc family.Mul (ir_width w) 3 2 (Some 1) ∷ lines)) first s (with_flags s p.flags) temps
     (after (both_read w x y) (Calc family.Mul (ir_width w) 3 2 (Some 1) ∷ lines) first (virtual s.regs (eight a u v d e f g h) s.flags) (both_do w x y a b c d e f g h s fit_x fit_y r t)
-        ∙ ap (did_all lines) (calc_do family.Mul w 3 2 (Some 1) s.regs (eight a u v d e f g h) s.flags)
-        ∙ ap (λ m. did_all lines (virtual s.regs (eight a u v m e f g h) s.flags)) low_is
-        ∙ product_do true w s.regs temps s.flags)
+    ∙ ap (did_all lines) (calc_do family.Mul w 3 2 (Some 1) s.regs (eight a u v d e f g h) s.flags)
+    ∙ ap (λ m. did_all lines (virtual s.regs (eight a u v m e f g h) s.flags)) low_is
+    ∙ product_do true w s.regs temps s.flags)
     low_less (register_fits w dst fit_dst) tt wants numbers refl
 
 -- what IMUL wants
@@ -277,23 +277,23 @@ imul_law w dst x (operand.Imm n) next wide fit_dst fit none =
     let no_x = left_false (is_memory x) false none in
     lifts (Imul w dst x (operand.Imm n)) next
     (λ a b c d e f g h s mid numbers.
-        rw (no_loads next w x 1 no_x)
-        (imul_ends w dst x (operand.Imm n) (Imul w dst x (operand.Imm n)) next a b c d e f g h s wide fit_dst fit.target.fits fit.source (not_loaded s w x b no_x) (not_loaded s w (operand.Imm n) c refl) numbers
-            (quiet (Imul w dst x (operand.Imm n)) next s none mid ∙ imul_wants w dst x (operand.Imm n) next s wide ∙ ap (low_multiplied s next w dst) (smul_comm (bits_in w) (value s w x) (value s w (operand.Imm n))))))
+    rw (no_loads next w x 1 no_x)
+    (imul_ends w dst x (operand.Imm n) (Imul w dst x (operand.Imm n)) next a b c d e f g h s wide fit_dst fit.target.fits fit.source (not_loaded s w x b no_x) (not_loaded s w (operand.Imm n) c refl) numbers
+    (quiet (Imul w dst x (operand.Imm n)) next s none mid ∙ imul_wants w dst x (operand.Imm n) next s wide ∙ ap (low_multiplied s next w dst) (smul_comm (bits_in w) (value s w x) (value s w (operand.Imm n))))))
 imul_law w dst x (operand.Reg r) next wide fit_dst fit none =
     let no_x = left_false (is_memory x) false none in
     lifts (Imul w dst x (operand.Reg r)) next
     (λ a b c d e f g h s mid numbers.
-        rw (no_loads next w x 2 no_x)
-        (imul_ends w dst (operand.Reg r) x (Imul w dst x (operand.Reg r)) next a b c d e f g h s wide fit_dst fit.source fit.target.fits (not_loaded s w (operand.Reg r) b refl) (not_loaded s w x c no_x) numbers
-            (quiet (Imul w dst x (operand.Reg r)) next s none mid ∙ imul_wants w dst x (operand.Reg r) next s wide)))
+    rw (no_loads next w x 2 no_x)
+    (imul_ends w dst (operand.Reg r) x (Imul w dst x (operand.Reg r)) next a b c d e f g h s wide fit_dst fit.source fit.target.fits (not_loaded s w (operand.Reg r) b refl) (not_loaded s w x c no_x) numbers
+    (quiet (Imul w dst x (operand.Reg r)) next s none mid ∙ imul_wants w dst x (operand.Reg r) next s wide)))
 imul_law w dst x (operand.High r) next wide fit_dst fit none =
     let no_x = left_false (is_memory x) false none in
     lifts (Imul w dst x (operand.High r)) next
     (λ a b c d e f g h s mid numbers.
-        rw (no_loads next w x 2 no_x)
-        (imul_ends w dst (operand.High r) x (Imul w dst x (operand.High r)) next a b c d e f g h s wide fit_dst fit.source fit.target.fits (not_loaded s w (operand.High r) b refl) (not_loaded s w x c no_x) numbers
-            (quiet (Imul w dst x (operand.High r)) next s none mid ∙ imul_wants w dst x (operand.High r) next s wide)))
+    rw (no_loads next w x 2 no_x)
+    (imul_ends w dst (operand.High r) x (Imul w dst x (operand.High r)) next a b c d e f g h s wide fit_dst fit.source fit.target.fits (not_loaded s w (operand.High r) b refl) (not_loaded s w x c no_x) numbers
+    (quiet (Imul w dst x (operand.High r)) next s none mid ∙ imul_wants w dst x (operand.High r) next s wide)))
 imul_law w dst x (operand.Mem m) next wide fit_dst fit none = let no : false ≡ true = sym (right_false (is_memory x) true none) in let never : ⊥ = cc in absurd never
 
 -- ---- quotients
@@ -371,4 +371,4 @@ pub div_law : (signed : Bool) (w : Width) (src : Operand) (next : ℕ) → IsWid
 div_law signed w src next wide fit none =
     lifts (Div signed w src) next
     (λ a b c d e f g h s mid numbers.
-        rw (no_loads next w src 1 none) (div_ends signed w src next a b c d e f g h s wide fit.fits (not_loaded s w src b none) numbers (quiet (Div signed w src) next s none mid)))
+    rw (no_loads next w src 1 none) (div_ends signed w src next a b c d e f g h s wide fit.fits (not_loaded s w src b none) numbers (quiet (Div signed w src) next s none mid)))

@@ -78,7 +78,7 @@ mov_law w dst src next fit none =
     let no_src = right_false (is_memory dst) (is_memory src) none in
     lifts (Mov w dst src) next
     (λ a b c d e f g h s mid numbers.
-        rw (no_loads next w src 1 no_src) (mov_ends w dst src next a b c d e f g h s fit (not_loaded s w src b no_src) numbers (quiet (Mov w dst src) next s none mid)))
+    rw (no_loads next w src 1 no_src) (mov_ends w dst src next a b c d e f g h s fit (not_loaded s w src b no_src) numbers (quiet (Mov w dst src) next s none mid)))
 
 -- ---- MOVZX, MOVSX and MOVSXD, CWDE and CDQE
 
@@ -124,8 +124,8 @@ sign_extended_ends from w src dst i next a b c d e f g h s wider range fit_dst f
     let less : y < 2 ^ bits_in w = subst (λ (n : ℕ). n < 2 ^ bits_in w) same (low_bits_lt (bits_in w) (signed (bits_in from) x)) in
     given_follows i next w (operand.Reg dst) 2 (reads from src 1 ++ (Sext (bits_in from) (ir_width w) 2 1 ∷ [])) first s s (eight a x y d e f g h)
     (after (reads from src 1) (Sext (bits_in from) (ir_width w) 2 1 ∷ []) first (virtual s.regs (eight a x c d e f g h) s.flags) (reads_do from src 1 (eight a b c d e f g h) s.flags s fit r)
-        ∙ ap (λ n. virtual s.regs (eight a x (low_bits n (signed (bits_in from) x)) d e f g h) s.flags) (same_bits w)
-        ∙ ap (λ n. virtual s.regs (eight a x n d e f g h) s.flags) same)
+    ∙ ap (λ n. virtual s.regs (eight a x (low_bits n (signed (bits_in from) x)) d e f g h) s.flags) (same_bits w)
+    ∙ ap (λ n. virtual s.regs (eight a x n d e f g h) s.flags) same)
     less (register_fits w dst fit_dst) tt wants numbers refl
 
 pub zx_law : (from w : Width) (dst : ℕ) (src : Operand) (next : ℕ) → Widens from w → dst < 16 → PlaceFits from src → touches_memory (Zx from w dst src) ≡ false → Lifts (Zx from w dst src) next
@@ -133,14 +133,14 @@ unfolding finished
 zx_law from w dst src next wider fit_dst fit none =
     lifts (Zx from w dst src) next
     (λ a b c d e f g h s mid numbers.
-        rw (no_loads next from src 1 none) (zero_extended_ends from w src dst (Zx from w dst src) next a b c d e f g h s wider fit_dst fit.fits (not_loaded s from src b none) numbers (quiet (Zx from w dst src) next s none mid)))
+    rw (no_loads next from src 1 none) (zero_extended_ends from w src dst (Zx from w dst src) next a b c d e f g h s wider fit_dst fit.fits (not_loaded s from src b none) numbers (quiet (Zx from w dst src) next s none mid)))
 
 pub sx_law : (from w : Width) (dst : ℕ) (src : Operand) (next : ℕ) → Widens from w → dst < 16 → PlaceFits from src → touches_memory (Sx from w dst src) ≡ false → Lifts (Sx from w dst src) next
 unfolding finished
 sx_law from w dst src next wider fit_dst fit none =
     lifts (Sx from w dst src) next
     (λ a b c d e f g h s mid numbers.
-        rw (no_loads next from src 1 none) (sign_extended_ends from w src dst (Sx from w dst src) next a b c d e f g h s (widens_lt from w wider) (widens_le from w wider) fit_dst fit.fits (not_loaded s from src b none) numbers (quiet (Sx from w dst src) next s none mid)))
+    rw (no_loads next from src 1 none) (sign_extended_ends from w src dst (Sx from w dst src) next a b c d e f g h s (widens_lt from w wider) (widens_le from w wider) fit_dst fit.fits (not_loaded s from src b none) numbers (quiet (Sx from w dst src) next s none mid)))
 
 half_lt : (w : Width) → IsWide w → bits_in (half w) < bits_in w
 half_lt W32 h = lit< tt
@@ -159,7 +159,7 @@ unfolding finished value
 widen_law w next wide =
     lifts (Widen w) next
     (λ a b c d e f g h s mid numbers.
-        sign_extended_ends (half w) w (operand.Reg 0) 0 (Widen w) next a b c d e f g h s (half_lt w wide) (half_le w wide) (lit< tt) (lit< tt) (not_loaded s (half w) (operand.Reg 0) b refl) numbers (quiet (Widen w) next s refl mid))
+    sign_extended_ends (half w) w (operand.Reg 0) 0 (Widen w) next a b c d e f g h s (half_lt w wide) (half_le w wide) (lit< tt) (lit< tt) (not_loaded s (half w) (operand.Reg 0) b refl) numbers (quiet (Widen w) next s refl mid))
 
 -- ---- LEA
 
@@ -210,7 +210,7 @@ set_ends cc dst next a b c d e f g h s fit numbers wants =
     let y = from_bool (holds cc s.flags) in
     given_follows (Set cc dst) next W8 dst 2 (addressed next dst ++ lines) first s s (eight x y y d e f g h)
     (after (addressed next dst) lines first (virtual s.regs (eight x b c d e f g h) s.flags) (addressed_do next dst a b c d e f g h s)
-        ∙ ap (λ t. virtual s.regs (eight x (from_bool t) (from_bool t) d e f g h) s.flags) (same_test cc s.regs (eight x b c d e f g h) s.flags))
+    ∙ ap (λ t. virtual s.regs (eight x (from_bool t) (from_bool t) d e f g h) s.flags) (same_test cc s.regs (eight x b c d e f g h) s.flags))
     (bit_lt (holds cc s.flags)) fit (addressed_at next dst a y y d e f g h s) wants numbers refl
 
 pub set_law : (cc : Condition) (dst : Operand) (next : ℕ) → PlaceFits W8 dst → touches_memory (Set cc dst) ≡ false → Lifts (Set cc dst) next
@@ -237,16 +237,16 @@ cmov_ends cc w dst src next a b c d e f g h s fit_dst fit r numbers wants =
     let rest : List Op = Cond 3 (ir_cond cc) ∷ Pick (ir_width w) 4 3 1 2 ∷ [] in
     given_follows (Cmov cc w dst src) next w (operand.Reg dst) 4 (reads w src 1 ++ lines) first s s (eight a x y (from_bool t) (if t then x else y) f g h)
     (after (reads w src 1) lines first (virtual s.regs (eight a x c d e f g h) s.flags) (reads_do w src 1 (eight a b c d e f g h) s.flags s fit r)
-        ∙ ap (did_all rest) (reads_do w (operand.Reg dst) 2 (eight a x c d e f g h) s.flags s fit_dst (not_loaded s w (operand.Reg dst) c refl))
-        ∙ ap (λ z. virtual s.regs (eight a x y (from_bool z) (if from_bool z == 1 then x else y) f g h) s.flags) (same_test cc s.regs (eight a x y d e f g h) s.flags)
-        ∙ ap (λ z. virtual s.regs (eight a x y (from_bool t) z f g h) s.flags) (picked t x y))
+    ∙ ap (did_all rest) (reads_do w (operand.Reg dst) 2 (eight a x c d e f g h) s.flags s fit_dst (not_loaded s w (operand.Reg dst) c refl))
+    ∙ ap (λ z. virtual s.regs (eight a x y (from_bool z) (if from_bool z == 1 then x else y) f g h) s.flags) (same_test cc s.regs (eight a x y d e f g h) s.flags)
+    ∙ ap (λ z. virtual s.regs (eight a x y (from_bool t) z f g h) s.flags) (picked t x y))
     (chosen_lt t x y (2 ^ bits_in w) (value_lt w src s fit) (value_lt w (operand.Reg dst) s fit_dst)) (register_fits w dst fit_dst) tt wants numbers refl
 
 pub cmov_law : (cc : Condition) (w : Width) (dst : ℕ) (src : Operand) (next : ℕ) → dst < 16 → PlaceFits w src → touches_memory (Cmov cc w dst src) ≡ false → Lifts (Cmov cc w dst src) next
 cmov_law cc w dst src next fit_dst fit none =
     lifts (Cmov cc w dst src) next
     (λ a b c d e f g h s mid numbers.
-        rw (no_loads next w src 1 none) (cmov_ends cc w dst src next a b c d e f g h s fit_dst fit.fits (not_loaded s w src b none) numbers (quiet (Cmov cc w dst src) next s none mid)))
+    rw (no_loads next w src 1 none) (cmov_ends cc w dst src next a b c d e f g h s fit_dst fit.fits (not_loaded s w src b none) numbers (quiet (Cmov cc w dst src) next s none mid)))
 
 -- ---- XCHG of registers
 
@@ -261,9 +261,9 @@ swapped w x y next a b c d e f g h s p q no_x no_y numbers wants =
     let two = assigned one w y u in
     private_follows (Xchg w x y) next (both_read w x y ++ (puts w x 2 ++ puts w y 1)) first s two temps
     (after (both_read w x y) (puts w x 2 ++ puts w y 1) first (virtual s.regs temps s.flags) (both_do w x y a b c d e f g h s p q (not_loaded s w x b no_x) (not_loaded s w y c no_y))
-        ∙ after (puts w x 2) (puts w y 1) (virtual s.regs temps s.flags) (virtual one.regs temps s.flags) (puts_do w x 2 temps s.flags s p (value_lt w y s q))
-        ∙ puts_do w y 1 temps s.flags one q (value_lt w x s p)
-        ∙ ap (virtual two.regs temps) (sym (assigned_flags w y u one ∙ assigned_flags w x v s)))
+    ∙ after (puts w x 2) (puts w y 1) (virtual s.regs temps s.flags) (virtual one.regs temps s.flags) (puts_do w x 2 temps s.flags s p (value_lt w y s q))
+    ∙ puts_do w y 1 temps s.flags one q (value_lt w x s p)
+    ∙ ap (virtual two.regs temps) (sym (assigned_flags w y u one ∙ assigned_flags w x v s)))
     wants (assigned_numbers w y u one (value_lt w x s p) (assigned_numbers w x v s (value_lt w y s q) numbers)) refl
 
 exchange_core : (w : Width) (x y : Operand) (next a b c d e f g h : ℕ) (s : Cpu) → OperandFits w x → OperandFits w y → is_memory x ≡ false → is_memory y ≡ false → Numbers s.regs → want_of (Xchg w x y) next s ≡ finished (Xchg w x y) next s → Follows (Xchg w x y) next (xchg_parts next w x y) (virtual s.regs (eight a b c d e f g h) s.flags) s Onward

@@ -77,11 +77,11 @@ extended k w v l h range p =
     ⊎_elim
     (λ q. rw (lt-ltb v (2 ^ (bits_in k - 1)) q, signed_low (bits_in k) v q) (low_bits_is (bits_in w) (pos v) 0 v (omega (arith, ints)) ∙ mod-eq_of_lt (omega arith)))
     (λ q.
-        let m = v + (2 ^ bits_in w - 2 ^ bits_in k) in
-        let small : m < 2 ^ bits_in w = omega arith in
-        let moved : negsuc (2 ^ bits_in k - 1 - v) +ℤ pos (1 * 2 ^ bits_in w) ≡ pos m = omega (arith, ints) in
-        let same : low_bits (bits_in w) (negsuc (2 ^ bits_in k - 1 - v)) ≡ m = low_bits_is (bits_in w) (negsuc (2 ^ bits_in k - 1 - v)) 1 m moved ∙ mod-eq_of_lt small in
-        rw (le-ltb v (2 ^ (bits_in k - 1)) q, signed_high (bits_in k) v q) same)
+    let m = v + (2 ^ bits_in w - 2 ^ bits_in k) in
+    let small : m < 2 ^ bits_in w = omega arith in
+    let moved : negsuc (2 ^ bits_in k - 1 - v) +ℤ pos (1 * 2 ^ bits_in w) ≡ pos m = omega (arith, ints) in
+    let same : low_bits (bits_in w) (negsuc (2 ^ bits_in k - 1 - v)) ≡ m = low_bits_is (bits_in w) (negsuc (2 ^ bits_in k - 1 - v)) 1 m moved ∙ mod-eq_of_lt small in
+    rw (le-ltb v (2 ^ (bits_in k - 1)) q, signed_high (bits_in k) v q) same)
     (cases_lt v (2 ^ (bits_in k - 1)))
 
 -- a shift by one bit less than the width leaves copies of the sign
@@ -90,10 +90,10 @@ filled n a p h =
     let twice = pow_twice n p in
     ⊎_elim
     (λ q. rw (lt-ltb a (2 ^ (n - 1)) q) (sym (floor_low n a (n - 1) p q) ∙ div-eq_of_lt q))
-    (λ q.
-        let rest : 2 ^ n - 1 - a < 2 ^ (n - 1) = omega arith in
-        let none : (2 ^ n - 1) - (2 ^ n - 1 - a) / 2 ^ (n - 1) ≡ 2 ^ n - 1 = rw (div-eq_of_lt rest) (omega arith) in
-        rw (le-ltb a (2 ^ (n - 1)) q) (sym (floor_high n a (n - 1) p q h) ∙ none))
+    (λ (q : 2 ^ (n - 1) ≤ a).
+    let rest : 2 ^ n - 1 - a < 2 ^ (n - 1) = omega arith in
+    let none : (2 ^ n - 1) - (2 ^ n - 1 - a) / 2 ^ (n - 1) ≡ 2 ^ n - 1 = rw (div-eq_of_lt rest) (omega arith) in
+    rw (le-ltb a (2 ^ (n - 1)) q) (sym (floor_high n a (n - 1) p q h) ∙ none))
     (cases_lt a (2 ^ (n - 1)))
 
 pub sar_spread : (w : Width) (a : ℕ) (f : Flags) → IsWide w → a < 2 ^ bits_in w → (sar_of (bits_in w) a (bits_in w - 1) f).value ≡ spread w a

@@ -4,10 +4,10 @@ use Rattle.std.specs.Prelude.{nat_le, nat_lt}
 use Rattle.std.proofs.lemmas.Option.{option_and_then_some}
 use Rattle.std.proofs.lemmas.Bool.Decides.{nat_tests}
 use Rattle.machine_model.specs.declared.case.Case.{Case}
-use Rattle.machine_model.specs.declared.ending.BadKind.{BadKind}
-use Rattle.machine_model.specs.declared.ending.RunEnd.TheVariants as end
-use Rattle.machine_model.specs.declared.journal.Entry.{Entry}
-use Rattle.machine_model.specs.declared.journal.Entry.TheVariants.{Ev, Tick, Over}
+use Rattle.machine_model.specs.declared.first.ending.BadKind.{BadKind}
+use Rattle.machine_model.specs.declared.first.ending.RunEnd.TheVariants as end
+use Rattle.machine_model.specs.declared.first.journal.Entry.{Entry}
+use Rattle.machine_model.specs.declared.first.journal.Entry.TheVariants.{Ev, Tick, Over}
 use Rattle.machine_model.specs.First.Machine.{Thread, Machine, Exits, Bad, want, after_private, step, play_from, play, start, silent, exit_number}
 
 pub play_from-push : (case : Case) (m n p : Machine) (es : List Entry) (e : Entry) → play_from case m es ≡ Some n → step case n e ≡ Some p → play_from case m (es ++ e ∷ []) ≡ Some p

@@ -7,8 +7,8 @@ use Rattle.elf_image.specs.declared.image.Image.{Image}
 use Rattle.machine_model.specs.declared.first.Instr.TheVariants.{Move, Jump}
 use Rattle.machine_model.specs.First.Code.{instr_at, is_code_place, next_of}
 use Rattle.machine_model.specs.First.Blocks.{span_up_to, span, rest_of, entered, is_among, Stand, gated_step, gated_steps, gated_last, gated_entry, gated_from}
-use Rattle.machine_model.specs.declared.journal.Entry.{Entry}
-use Rattle.machine_model.specs.declared.journal.Entry.TheVariants.{Ev}
+use Rattle.machine_model.specs.declared.first.journal.Entry.{Entry}
+use Rattle.machine_model.specs.declared.first.journal.Entry.TheVariants.{Ev}
 use Rattle.machine_model.specs.First.Machine.{private_of}
 use Rattle.machine_model.specs.First.Walker.{run_of}
 

@@ -1,14 +1,16 @@
 //! The machine of two instructions: one thread, `mov r32, imm32` and `jmp rel32`, and the places of `exit`.
 ghost use Rattle.std.specs.Prelude.{◌≡◌, ◌<◌, ◌++◌, ℕ, List, All, take, Some};
 ghost use Rattle.machine_model.specs.CaseData.{CaseData};
-ghost use Rattle.machine_model.specs.declared.journal.Entry.{Entry};
+ghost use Rattle.machine_model.specs.declared.first.journal.Entry.{Entry};
 ghost use Rattle.machine_model.specs.First.Blocks.{HasPlace, IsClosed, IsGated, is_among};
 ghost use Rattle.machine_model.specs.First.Code.{IsInstr, Spells, spelling, spelled};
 ghost use Rattle.machine_model.specs.First.Machine.{play, Machine};
 
 pub mod code;
+pub mod ending;
 pub mod gated;
 pub mod guest;
+pub mod journal;
 
 /// An instruction of the first machine.
 #[derive(Clone, Copy, Debug, PartialEq, Eq)]

@@ -2,31 +2,66 @@
 use std::alloc::{AllocError, Global};
 use std::marker::Model;
 
-/// One entry of a journal: by which thread, and after how many private steps.
+/// One entry of a journal: a step of the plain machine. The first number is the thread, below 64; `k` private steps of
+/// that thread, at most 4,096, come before the rest.
 #[derive(Clone, Copy, Debug, PartialEq, Eq)]
 pub enum Entry {
-    /// Private steps, then one step that isn't private.
+    /// Thread, `k`: then one step that is neither private nor waiting. A bad step ends the run.
     Ev(u32, u32),
-    /// Private steps alone.
+    /// Thread, `k`: no more; `k` is at least 1.
     Tick(u32, u32),
-    /// Private steps, with which the limit of steps is reached.
+    /// Thread: its oldest waiting write goes to memory.
+    Flush(u32),
+    /// Thread, `k`: then it stands at a call that waits; `k` is at least 1.
+    Wait(u32, u32),
+    /// Thread, `k`, source, target: then the instruction at the source was finished last, and the thread is at the
+    /// target, which isn't grown.
+    Miss(u32, u32, u64, u64),
+    /// Thread, place: the place is grown.
+    Grow(u32, u64),
+    /// Thread, `k`: with these the limit of steps is reached.
     Over(u32, u32),
+    /// Thread: it is at a place that isn't grown, and no more may be.
+    Full(u32),
+    /// No thread can go on.
+    Dead,
 }
 
 impl Entry {
     ghost use Rattle.std.specs.Prelude.{◌≡◌};
-    ghost use Rattle.machine_model.specs.First.Machine.{private_of};
+    ghost use Rattle.machine_model.specs.Step.{private_of, thread_of};
 
-    /// How many private steps the entry begins with.
+    /// The thread that the entry names; 64 for `Dead`.
+    pub fn thread(self) -> u32
+        ensures { result ≡ thread_of self }
+    {
+        match self {
+            Entry::Ev(t, _)
+            | Entry::Tick(t, _)
+            | Entry::Flush(t)
+            | Entry::Wait(t, _)
+            | Entry::Miss(t, _, _, _)
+            | Entry::Grow(t, _)
+            | Entry::Over(t, _)
+            | Entry::Full(t) => t,
+            Entry::Dead => 64,
+        }
+    }
+
+    /// With how many private steps the entry begins.
     pub fn private_steps(self) -> u32
         ensures { result ≡ private_of self }
     {
         match self {
-            Entry::Ev(_, k) | Entry::Tick(_, k) | Entry::Over(_, k) => k,
+            Entry::Ev(_, k)
+            | Entry::Tick(_, k)
+            | Entry::Wait(_, k)
+            | Entry::Miss(_, k, _, _)
+            | Entry::Over(_, k) => k,
+            Entry::Flush(_) | Entry::Grow(_, _) | Entry::Full(_) | Entry::Dead => 0,
         }
     }
 }
-
 /// The entries of a run, in order. Contracts see it as their list.
 #[derive(Drop)]
 pub struct Journal {

@@ -1,13 +1,21 @@
 //! The plain machine's definitions: the yardstick over which every promise of the program speaks.
 //!
-//! It stands on `elf_image`, and knows of no block store, budget or lock. What it declares:
+//! They say what a run of an x86-64 program with 64 threads under x86-TSO is, and read no block store, budget or lock:
 //! - the case of a run (`Case`), a run's ending (`RunEnd`), a journal and its entries (`Journal`, `Entry`);
-//! - the module `first`: the machine of two instructions, which the program runs until the whole machine
-//!   stands. Its definitions are in `specs/First`: which bytes spell an instruction, what the thread wants
-//!   next, one step, a played journal, the span of a code place, reach, and gated journals.
+//! - in `specs`, the machine at one moment (`State`), one step for each kind of entry (`Step`), a played journal and the
+//!   entries of one thread (`Play`), the span of a code place and its direct successors (`Span`), reach (`Reach`), and
+//!   gated journals (`Gated`);
+//! - `laws`: what the definitions come to.
+//!
+//! The module `first` is a machine of its own, of two instructions and one thread, with its own entries and endings: the
+//! program runs it until the whole machine takes its place. Only the case is shared.
+//!
+//! The crate stands on the definitions of `elf_image`, `x86_forms`, `x86_model`, `tso_memory`, `guest_map`,
+//! `lib_table`, `callbacks` and `miss_report`.
 #![tactic(auto)]
 
 pub mod case;
 pub mod ending;
 pub mod first;
 pub mod journal;
+pub mod laws;

@@ -4,7 +4,7 @@ use Rattle.std.specs.Prelude.{IfSome}
 use Rattle.std.specs.Io.KnownBytes.{Appends}
 use Rattle.mx_outside.specs.Names.{NameMap}
 use Rattle.machine_model.specs.declared.case.Case.{Case}
-use Rattle.machine_model.specs.declared.ending.RunEnd.{RunEnd}
+use Rattle.machine_model.specs.declared.first.ending.RunEnd.{RunEnd}
 use Rattle.machine_model.specs.First.Machine.{Machine, silent}
 use Rattle.machine_model.specs.First.Blocks.{IsGated}
 use Rattle.machine_model.proofs.Inside.{played-gated}

@@ -2,9 +2,9 @@
 use Rattle.std.proofs.Common.{◌≡◌, ◌≢◌, ℕ, ◌+◌, ◌-◌, ◌<◌, ◌≤◌, [], Some, None, refl, arith}
 use Rattle.std.specs.Prelude.{min}
 use Rattle.machine_model.specs.declared.case.Case.{Case}
-use Rattle.machine_model.specs.declared.ending.RunEnd.TheVariants as end
-use Rattle.machine_model.specs.declared.ending.BadKind.TheVariants as bad
-use Rattle.machine_model.specs.declared.journal.Entry.TheVariants.{Ev, Tick, Over}
+use Rattle.machine_model.specs.declared.first.ending.RunEnd.TheVariants as end
+use Rattle.machine_model.specs.declared.first.ending.BadKind.TheVariants as bad
+use Rattle.machine_model.specs.declared.first.journal.Entry.TheVariants.{Ev, Tick, Over}
 use Rattle.machine_model.specs.First.Machine.{Thread, Exits, Bad, want, after_private, step, silent, exit_number, play, play_from, first_thread}
 use Rattle.machine_model.specs.declared.first.guest.Stop.{Stop}
 use Rattle.machine_model.specs.declared.first.guest.Stop.TheVariants as stops

@@ -1,6 +1,6 @@
 -- How a run's last line settles its ending.
 use Rattle.std.proofs.Common.{◌≡◌, ℕ, ◌⊎◌, inl, inr, Bool, true, false, Option, Some, None, refl}
-use Rattle.machine_model.specs.declared.ending.RunEnd.{RunEnd}
+use Rattle.machine_model.specs.declared.first.ending.RunEnd.{RunEnd}
 use Rattle.machine_model.specs.First.Machine.{Thread, silent}
 use Rattle.mx_outside.specs.Causes.{Rose}
 use Rattle.recompile_core.specs.declared.ending.Ending.{Ending}

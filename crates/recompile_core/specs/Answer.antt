@@ -5,7 +5,7 @@ use Rattle.mx_outside.specs.Bytes.{AppendsPrefix}
 use Rattle.mx_outside.specs.Causes.{Rose}
 use Rattle.mx_outside.specs.Names.{NameMap}
 use Rattle.machine_model.specs.declared.case.Case.{Case}
-use Rattle.machine_model.specs.declared.ending.RunEnd.{RunEnd}
+use Rattle.machine_model.specs.declared.first.ending.RunEnd.{RunEnd}
 use Rattle.machine_model.specs.First.Machine.{Thread, Machine, play, silent}
 use Rattle.recompile_core.specs.declared.answer.Answer.{Answer}
 use Rattle.recompile_core.specs.declared.ending.Ending.{Ending}

@@ -1,10 +1,10 @@
 -- What each ending answers and writes last.
 use Rattle.std.specs.Prelude.{ℕ, ◌%◌, false, List, ◌++◌, codes, ⊤}
 use Rattle.std.specs.Fmt.{decimal, digits}
-use Rattle.machine_model.specs.declared.ending.RunEnd.{RunEnd}
-use Rattle.machine_model.specs.declared.ending.RunEnd.TheVariants.{Exit, Fault, Steps}
-use Rattle.machine_model.specs.declared.ending.BadKind.{BadKind}
-use Rattle.machine_model.specs.declared.ending.BadKind.TheVariants.{Code}
+use Rattle.machine_model.specs.declared.first.ending.RunEnd.{RunEnd}
+use Rattle.machine_model.specs.declared.first.ending.RunEnd.TheVariants.{Exit, Fault, Steps}
+use Rattle.machine_model.specs.declared.first.ending.BadKind.{BadKind}
+use Rattle.machine_model.specs.declared.first.ending.BadKind.TheVariants.{Code}
 use Rattle.recompile_core.specs.declared.ending.Ending.{Ending}
 use Rattle.recompile_core.specs.declared.ending.Ending.TheVariants.{Run, Usage, Image, ReadFault, Absent, Memory, WriteFault}
 use Rattle.recompile_core.specs.declared.words.WordsFault.{WordsFault}

@@ -1,12 +1,12 @@
 -- What a run leaves: a journal that is played to a machine without outputs.
 use Rattle.std.specs.Prelude.{◌≡◌, ℕ, List, Option, Some}
 use Rattle.machine_model.specs.declared.case.Case.{Case}
-use Rattle.machine_model.specs.declared.ending.RunEnd.{RunEnd}
-use Rattle.machine_model.specs.declared.ending.RunEnd.TheVariants as end
-use Rattle.machine_model.specs.declared.ending.BadKind.TheVariants as bad
+use Rattle.machine_model.specs.declared.first.ending.RunEnd.{RunEnd}
+use Rattle.machine_model.specs.declared.first.ending.RunEnd.TheVariants as end
+use Rattle.machine_model.specs.declared.first.ending.BadKind.TheVariants as bad
 use Rattle.machine_model.specs.declared.first.guest.Stop.{Stop}
 use Rattle.machine_model.specs.declared.first.guest.Stop.TheVariants.{Exit, Code}
-use Rattle.machine_model.specs.declared.journal.Entry.{Entry}
+use Rattle.machine_model.specs.declared.first.journal.Entry.{Entry}
 use Rattle.machine_model.specs.First.Machine.{Thread, play, silent}
 
 -- the journal is played to a machine with this ending, which has written nothing

@@ -3,7 +3,7 @@ use Rattle.std.specs.Prelude.{◌≡◌, ℕ, ◌⊎◌, List, Bool, true, false
 use Rattle.elf_image.specs.Loading.{IsFaulty}
 use Rattle.mx_outside.specs.Causes.{Rose}
 use Rattle.mx_outside.specs.Names.{NameMap}
-use Rattle.machine_model.specs.declared.ending.RunEnd.{RunEnd}
+use Rattle.machine_model.specs.declared.first.ending.RunEnd.{RunEnd}
 use Rattle.recompile_core.specs.declared.ending.Ending.{Ending}
 use Rattle.recompile_core.specs.declared.ending.Ending.TheVariants.{Run, Usage, Image, ReadFault, Absent, Memory, WriteFault}
 use Rattle.recompile_core.specs.CaseOf.{IsAbsent, IsNoProgram, ReachesTooFar}

@@ -1,7 +1,7 @@
 //! What a call answers.
 use crate::ending::Ending;
 use machine_model::case::Case;
-use machine_model::journal::Journal;
+use machine_model::first::journal::Journal;
 
 /// The answer of a call.
 #[derive(Drop)]

@@ -3,7 +3,7 @@ ghost use Rattle.std.specs.Prelude.{◌≡◌};
 ghost use Rattle.recompile_core.specs.Ending.{status_of};
 
 use crate::words::WordsFault;
-use machine_model::ending::RunEnd;
+use machine_model::first::ending::RunEnd;
 
 /// How a call of `recompile` ends.
 #[derive(Clone, Copy, Debug, PartialEq, Eq)]

@@ -8,7 +8,7 @@ ghost use Rattle.recompile_core.specs.Line.{bytes_of, LastLine};
 
 use crate::ending::Ending;
 use crate::words::WordsFault;
-use machine_model::ending::{BadKind, RunEnd};
+use machine_model::first::ending::{BadKind, RunEnd};
 use mx_outside::{Failed, Sink, write_all};
 use std::alloc::{AllocError, Global};
 

@@ -4,9 +4,9 @@ ghost use Rattle.machine_model.specs.First.Machine.{private_of, silent, step};
 ghost use Rattle.recompile_core.specs.Played.{end_of, PlaysTo};
 
 use machine_model::case::Case;
-use machine_model::ending::{BadKind, RunEnd};
+use machine_model::first::ending::{BadKind, RunEnd};
 use machine_model::first::guest::{Guest, Stop};
-use machine_model::journal::{Entry, Journal};
+use machine_model::first::journal::{Entry, Journal};
 use std::alloc::Global;
 
 /// The greatest number of private steps between two entries.

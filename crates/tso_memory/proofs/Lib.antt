@@ -5,3 +5,4 @@ pub mod SpaceLemmas
 pub mod RunLemmas
 pub mod MakeLemmas
 pub mod LawLemmas
+pub mod CopyLemmas

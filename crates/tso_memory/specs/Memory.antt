@@ -57,6 +57,11 @@ unfoldable pub number_from : (ℕ → ℕ) → ℕ → ℕ → ℕ
 number_from byte zero x = 0
 number_from byte (suc n) x = byte x + 256 * number_from byte n (x + 1)
 
+-- the n bytes from an address on
+unfoldable pub bytes_from : Memory → ℕ → ℕ → List ℕ
+bytes_from m x zero = []
+bytes_from m x (suc n) = byte_of m x ∷ bytes_from m (x + 1) n
+
 -- with another byte at an address: its rights stay, and where there is none nothing changes
 abbrev pub with_cell : Memory → ℕ → ℕ → Option Cell → Memory
 with_cell m x b None = m

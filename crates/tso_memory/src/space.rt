@@ -5,7 +5,7 @@ ghost use Rattle.std.specs.FinMap.{empty, get};
 ghost use Rattle.byteorder.specs.Endian.{little_number};
 ghost use Rattle.tso_memory.specs.Buffer.{size_of};
 ghost use Rattle.tso_memory.specs.declared.access.Access.TheVariants.{Load};
-ghost use Rattle.tso_memory.specs.Memory.{Memory, byte_of, may, first_denied, refusal, number_from, put_byte, put_bytes, add_cells, memory_of};
+ghost use Rattle.tso_memory.specs.Memory.{Memory, byte_of, may, first_denied, refusal, number_from, bytes_from, put_byte, put_bytes, add_cells, memory_of};
 ghost use Rattle.tso_memory.specs.Piece.{AreApart, AreLow, end_of, has};
 
 use crate::access::{Access, Denied};
@@ -164,6 +164,29 @@ impl AddressSpace {
         }
         self.check(a, size as u64, Access::Load)?;
         Ok(self.number(a, width))
+    }
+
+    /// Copies the bytes from an address on, whatever the rights.
+    pub(crate) fn copy(&self, a: u64, to: &mut [u8])
+        requires { a + length to.old ≤ 2 ^ 64 }
+        ensures { to.new ≡ bytes_from self.now a (length to.old) }
+    {
+        match find_run(&self.pieces, a, to.len()) {
+            Some((i, place)) => {
+                let piece = &self.pieces[i];
+                to.copy_from_slice(&piece.bytes[place..place + to.len()]);
+            }
+            None => self.copy_each(a, to),
+        }
+    }
+
+    fn copy_each(&self, a: u64, to: &mut [u8])
+        requires { a + length to.old ≤ 2 ^ 64 }
+        ensures { to.new ≡ bytes_from self.now a (length to.old) }
+    {
+        for k in 0..to.len() {
+            to[k] = self.byte(a + k as u64);
+        }
     }
 
     /// Writes bytes from an address on, whatever the rights. A byte for which there is no place is lost.

@@ -3,7 +3,7 @@
 ghost use Rattle.std.specs.Prelude.{◌≡◌, ℕ, ◌+◌, ◌^◌, ◌<◌, ◌≤◌, ◌==◌, [], ◌∷◌, ◌++◌, length, replicate, IfOk, OnOk, OnErr, not, if◌then◌else◌};
 ghost use Rattle.tso_memory.specs.declared.access.Access.TheVariants.{Load, Store, Locked};
 ghost use Rattle.tso_memory.specs.Buffer.{size_of, pending, seen};
-ghost use Rattle.tso_memory.specs.Memory.{byte_of, may, first_denied, refusal, number_from};
+ghost use Rattle.tso_memory.specs.Memory.{byte_of, may, first_denied, refusal, number_from, bytes_from};
 ghost use Rattle.tso_memory.specs.Piece.{AreApart, AreLow};
 ghost use Rattle.tso_memory.specs.Tso.{buffer_of, seen_by, stored, flushed, poked, exchanged, memory_number, start_of};
 
@@ -189,6 +189,25 @@ impl Tso {
     {
         self.space.check(a, 1, Access::Load)?;
         Ok(self.space.byte(a))
+    }
+
+    /// The number of `width` from address `a` on in memory itself. Needs R on each byte.
+    pub fn peek_number(&self, a: u64, width: Width) -> Result<u64, Denied>
+        ensures value { IfOk result (λ v. v ≡ memory_number self.now (size_of width) a) }
+        ensures rights { refusal result ≡ first_denied (may self.now.memory Load) a (size_of width) }
+    {
+        self.space.read(a, width)
+    }
+
+    /// Copies the bytes from address `a` on out of memory itself: all of them, or none. Needs R on each.
+    pub fn peek_all(&self, a: u64, to: &mut [u8]) -> Result<(), Denied>
+        ensures rights { refusal result ≡ first_denied (may self.now.memory Load) a (length to.old) }
+        ensures copied { OnOk result (to.new ≡ bytes_from self.now.memory a (length to.old)) }
+        ensures refused { OnErr result (to.new ≡ to.old) }
+    {
+        self.space.check(a, to.len() as u64, Access::Load)?;
+        self.space.copy(a, to);
+        Ok(())
     }
 
     /// Writes bytes from address `a` on into memory itself: all of them, or none. Needs W on each.

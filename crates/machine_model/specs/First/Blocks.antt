@@ -7,8 +7,8 @@ use Rattle.elf_image.specs.declared.image.Image.{Image}
 use Rattle.machine_model.specs.declared.case.Case.{Case}
 use Rattle.machine_model.specs.declared.first.Instr.{Instr}
 use Rattle.machine_model.specs.declared.first.Instr.TheVariants.{Move, Jump}
-use Rattle.machine_model.specs.declared.journal.Entry.{Entry}
-use Rattle.machine_model.specs.declared.journal.Entry.TheVariants.{Ev, Tick, Over}
+use Rattle.machine_model.specs.declared.first.journal.Entry.{Entry}
+use Rattle.machine_model.specs.declared.first.journal.Entry.TheVariants.{Ev, Tick, Over}
 use Rattle.machine_model.specs.First.Code.{is_code_place, instr_at, next_of, target_of}
 use Rattle.machine_model.specs.First.Machine.{Thread, privately, want, private_of, start}
 

@@ -2,14 +2,14 @@
 use Rattle.std.specs.Prelude.{ℕ, zero, suc, ◌+◌, ◌%◌, ◌^◌, Bool, ◌&&◌, ◌==◌, nat_le, nat_lt, if◌then◌else◌, List, [], ◌∷◌, slice_index, slice_set, replicate, Option, Some, None, option_and_then, is_none}
 use Rattle.elf_image.specs.declared.image.Image.{Image}
 use Rattle.machine_model.specs.declared.case.Case.{Case}
-use Rattle.machine_model.specs.declared.ending.BadKind.{BadKind}
-use Rattle.machine_model.specs.declared.ending.BadKind.TheVariants.{Code}
-use Rattle.machine_model.specs.declared.ending.RunEnd.{RunEnd}
-use Rattle.machine_model.specs.declared.ending.RunEnd.TheVariants as end
+use Rattle.machine_model.specs.declared.first.ending.BadKind.{BadKind}
+use Rattle.machine_model.specs.declared.first.ending.BadKind.TheVariants.{Code}
+use Rattle.machine_model.specs.declared.first.ending.RunEnd.{RunEnd}
+use Rattle.machine_model.specs.declared.first.ending.RunEnd.TheVariants as end
 use Rattle.machine_model.specs.declared.first.Instr.{Instr}
 use Rattle.machine_model.specs.declared.first.Instr.TheVariants.{Move, Jump}
-use Rattle.machine_model.specs.declared.journal.Entry.{Entry}
-use Rattle.machine_model.specs.declared.journal.Entry.TheVariants.{Ev, Tick, Over}
+use Rattle.machine_model.specs.declared.first.journal.Entry.{Entry}
+use Rattle.machine_model.specs.declared.first.journal.Entry.TheVariants.{Ev, Tick, Over}
 use Rattle.machine_model.specs.First.Code.{is_exit_place, instr_at, next_of, target_of}
 
 -- sixteen registers, and the address of the next instruction

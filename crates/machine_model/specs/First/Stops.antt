@@ -1,7 +1,7 @@
 -- Why a thread makes no further private step.
 use Rattle.std.specs.Prelude.{◌≡◌}
 use Rattle.elf_image.specs.declared.image.Image.{Image}
-use Rattle.machine_model.specs.declared.ending.BadKind.TheVariants as bad
+use Rattle.machine_model.specs.declared.first.ending.BadKind.TheVariants as bad
 use Rattle.machine_model.specs.declared.first.guest.Stop.{Stop}
 use Rattle.machine_model.specs.declared.first.guest.Stop.TheVariants.{Exit, Code}
 use Rattle.machine_model.specs.First.Machine.{Thread, Exits, Bad, exit_number, want}

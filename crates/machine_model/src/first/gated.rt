@@ -9,7 +9,7 @@ use crate::case::Case;
 use crate::first::Instr;
 use crate::first::code::{instr_at, is_code_place, next_of};
 use crate::first::guest::Guest;
-use crate::journal::{Entry, Journal};
+use crate::first::journal::{Entry, Journal};
 use elf_image::Image;
 use std::marker::Model;
 

@@ -1,0 +1,3 @@
+pub mod HeldLemmas
+pub mod WordLemmas
+pub mod WaitLemmas

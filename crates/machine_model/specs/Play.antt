@@ -1,0 +1,19 @@
+-- Journals played on the plain machine.
+use Rattle.std.specs.Prelude.{ℕ, ◌==◌, List, [], ◌∷◌, filter, Option, Some, option_and_then}
+use Rattle.machine_model.specs.declared.journal.Entry.{Entry}
+use Rattle.machine_model.specs.CaseData.{CaseData}
+use Rattle.machine_model.specs.State.{Machine, start}
+use Rattle.machine_model.specs.Step.{step, thread_of}
+
+-- a step for each item of a list, in order; none where one item is no step
+unfoldable pub walk : {S E : Type 0} → (S → E → Option S) → S → List E → Option S
+walk f s [] = Some s
+walk f s (e ∷ es) = option_and_then (λ next. walk f next es) (f s e)
+
+-- the machine after a journal from the start, or none where one of its entries is no step
+unfoldable pub play : CaseData → List Entry → Option Machine
+play c journal = walk (step c) (start c) journal
+
+-- the entries that name thread n, in order; those of 64 are `Dead`
+abbrev pub own : ℕ → List Entry → List Entry
+own n journal = filter (λ e. thread_of e == n) journal
