@@ -19,5 +19,3 @@ pub mod Costs
 pub mod Gates
 pub mod PlainLemmas
 pub mod PlainPlay
-pub mod LiftTypes
-pub mod LiftTyped
