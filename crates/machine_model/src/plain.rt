@@ -5,14 +5,14 @@ ghost use Rattle.std.specs.Prelude.{◌≡◌, ◌<◌, ◌^◌, IfErr, IfOk};
 ghost use Rattle.machine_model.specs.Plain.{FaultsIn};
 ghost use Rattle.machine_model.specs.Play.{play};
 
-mod core;
+mod cores;
 mod entries;
 mod machine;
 mod requests;
 
 use crate::case::Case;
 use crate::journal::Entry;
-pub use core::PlainCore;
+pub use cores::PlainCore;
 pub use machine::{PlainFault, PlainMachine};
 use std::alloc::Global;
 
