@@ -3,35 +3,24 @@ ghost use Rattle.x86_forms.specs.Groups.{group_of};
 ghost use Rattle.machine_model.specs.LiftLines.{alone};
 ghost use Rattle.machine_model.specs.LiftTable.{lifted, called};
 
+use crate::parts::{after_load, end_alone};
 use crate::stack::{popped, push_pushed, push_stack_at};
 use ir_syntax::{Op, Part, PartEnd, Target};
-use lift_alu::lines::{ended, push_line, push_load, push_part, push_read};
+use lift_alu::lines::{ended, push_read};
 use lift_alu::words::{ir_cond, target};
 use std::alloc::{AllocError, Global};
 use x86_forms::{Group, Instr, Operand, Width};
-
-// A part without lines.
-fn end_alone(alloc: Global, end: PartEnd) -> Result<Vec<Part>, AllocError>
-    ensures { IfOk result (λ parts. parts.items ≡ alone [] end) }
-{
-    let ops = Vec::new(alloc);
-    let parts = vec![in alloc; ended(ops, end)]?;
-    Ok(parts)
-}
 
 // JMP to the address in an operand.
 fn jump_to(alloc: Global, next: u64, src: Operand) -> Result<Vec<Part>, AllocError>
     ensures { IfOk result (λ parts. parts.items ≡ lifted (Instr.JmpTo src) next) }
 {
-    let mut parts = Vec::new(alloc);
-    push_load(&mut parts, alloc, next, Width::W64, src, 1)?;
     let mut ops = Vec::new(alloc);
     push_read(&mut ops, Width::W64, src, 1)?;
     let go = PartEnd::Go {
         to: Target::Temp(1),
     };
-    push_part(&mut parts, ended(ops, go))?;
-    Ok(parts)
+    after_load(alloc, next, Width::W64, src, 1, ended(ops, go))
 }
 
 // These lines, and then the address of the next instruction is pushed and the thread goes elsewhere.
@@ -62,12 +51,10 @@ fn call(alloc: Global, next: u64, to: u64) -> Result<Vec<Part>, AllocError>
 fn call_to(alloc: Global, next: u64, src: Operand) -> Result<Vec<Part>, AllocError>
     ensures { IfOk result (λ parts. parts.items ≡ lifted (Instr.CallTo src) next) }
 {
-    let mut parts = Vec::new(alloc);
-    push_load(&mut parts, alloc, next, Width::W64, src, 3)?;
     let mut ops = Vec::new(alloc);
     push_read(&mut ops, Width::W64, src, 3)?;
-    push_part(&mut parts, called(ops, next, Target::Temp(3))?)?;
-    Ok(parts)
+    let last = called(ops, next, Target::Temp(3))?;
+    after_load(alloc, next, Width::W64, src, 3, last)
 }
 
 // RET, which takes `extra` more bytes from the stack.

@@ -14,6 +14,7 @@ mod flow;
 pub mod laws;
 mod locked;
 mod memory;
+mod parts;
 mod stack;
 
 pub use flow::lift_flow;

@@ -4,6 +4,7 @@ ghost use Rattle.std.specs.Prelude.{◌≡◌, ◌++◌, ◌∷◌, [], IfOk, So
 ghost use Rattle.machine_model.specs.LiftLines.{ir_width, alone, part, lock_op, lock_one_op, address_line, reads, flag_lines, all_five};
 ghost use Rattle.machine_model.specs.LiftTable.{lifted, accumulator_ops};
 
+use crate::parts::end_alone;
 use ir_syntax::{Cond, Family, LockOp, Op, Part, PartEnd};
 use lift_alu::lines::{address_line, ended, given, push_line, push_put, push_read, Source};
 use lift_alu::words::{alu_family, ir_width, one_family};
@@ -44,15 +45,6 @@ fn operands(alloc: Global, next: u64, mem: Mem, w: Width, operand: Operand, t: u
     Ok(ops)
 }
 
-// No instruction.
-fn bad_code(alloc: Global) -> Result<Vec<Part>, AllocError>
-    ensures { IfOk result (λ parts. parts.items ≡ alone [] PartEnd.BadCode) }
-{
-    let ops = Vec::new(alloc);
-    let parts = vec![in alloc; ended(ops, PartEnd::BadCode)]?;
-    Ok(parts)
-}
-
 // The locked step with temporary 2, and what comes after it.
 fn locked(alloc: Global, before: Vec<Op>, kind: LockOp, w: Width, after: Vec<Op>) -> Result<Vec<Part>, AllocError>
     ensures { IfOk result (λ parts. parts.items ≡ part before.items (PartEnd.Locked kind (ir_width w) 1 0 2) ∷ alone after.items PartEnd.Tick) }
@@ -85,7 +77,7 @@ pub fn lock_alu(alloc: Global, next: u64, op: AluOp, w: Width, mem: Mem, src: Op
             source.push_all_five(&mut after)?;
             locked(alloc, before, kind, w, after)
         }
-        None => bad_code(alloc),
+        None => end_alone(alloc, PartEnd::BadCode),
     }
 }
 
@@ -106,7 +98,7 @@ pub fn lock_one(alloc: Global, next: u64, op: OneOp, w: Width, mem: Mem) -> Resu
             source.push_all_but_carry(&mut after)?;
             locked(alloc, before, kind, w, after)
         }
-        None => bad_code(alloc),
+        None => end_alone(alloc, PartEnd::BadCode),
     }
 }
 

@@ -4,8 +4,9 @@ ghost use Rattle.ir_syntax.specs.declared.width.Width.TheVariants.{W64};
 ghost use Rattle.machine_model.specs.LiftLines.{alone};
 ghost use Rattle.machine_model.specs.LiftTable.{lifted, stack_at, pushed, popped};
 
+use crate::parts::after_load;
 use ir_syntax::{Op, Part, PartEnd};
-use lift_alu::lines::{ended, push_line, push_load, push_part, push_put, push_read};
+use lift_alu::lines::{ended, push_line, push_put, push_read};
 use std::alloc::{AllocError, Global};
 use x86_forms::{Instr, Operand, Width};
 
@@ -49,8 +50,6 @@ pub fn popped(alloc: Global, r: u8) -> Result<Part, AllocError>
 pub fn push(alloc: Global, next: u64, src: Operand) -> Result<Vec<Part>, AllocError>
     ensures { IfOk result (λ parts. parts.items ≡ lifted (Instr.Push src) next) }
 {
-    let mut parts = Vec::new(alloc);
-    push_load(&mut parts, alloc, next, Width::W64, src, 1)?;
     let mut ops = Vec::new(alloc);
     push_read(&mut ops, Width::W64, src, 1)?;
     push_pushed(&mut ops)?;
@@ -59,8 +58,7 @@ pub fn push(alloc: Global, next: u64, src: Operand) -> Result<Vec<Part>, AllocEr
         a: 2,
         t: 1,
     };
-    push_part(&mut parts, ended(ops, store))?;
-    Ok(parts)
+    after_load(alloc, next, Width::W64, src, 1, ended(ops, store))
 }
 
 /// Register `dst` is loaded from where register `r` points, and rsp becomes the address behind that:
