@@ -1,0 +1,5 @@
+//! Whole basic blocks.
+#![tactic(auto)]
+
+/// Nothing yet.
+pub fn nothing() {}
