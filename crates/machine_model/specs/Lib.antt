@@ -14,3 +14,4 @@ pub mod LiftTable
 pub mod Follow
 pub mod Placed
 pub mod Faithful
+pub mod Block
