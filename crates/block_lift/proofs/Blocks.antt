@@ -112,14 +112,22 @@ placed_ends image a i X step h inv = inv (subst (λ (k : ℕ). ArePlaced (block_
 pub placed_goes_on : (image : ImageData) (a next i : ℕ) (X : Type 0) → ((n : ℕ) → ArePlaced (block_up_to image n next) → ArePlaced (block_up_to image (suc n) a)) → i < 64 → (ArePlaced (block_up_to image (64 - i) a) → X) → ArePlaced (block_up_to image (64 - (i + 1)) next) → X
 placed_goes_on image a next i X step h inv p = inv (subst (λ (k : ℕ). ArePlaced (block_up_to image k a)) (left_over i h) (step (64 - (i + 1)) p))
 
-pub span_full : {A : Type 0} (F : List Placed → List A) (image : ImageData) (a i : ℕ) (old X : List A) → F [] ≡ [] → i ≡ 64 → old ++ F (block_up_to image (64 - i) a) ≡ X → old ≡ X
-unfolding block_up_to
-span_full {A = A} F image a i old X none e inv =
-    sym (append-nil old) ∙ ap (λ (l : List A). old ++ l) (sym none) ∙ subst (λ (k : ℕ). old ++ F (block_up_to image (64 - k) a) ≡ X) e inv
+nothing_left : (i : ℕ) → 64 ≤ i → 64 - i ≡ 0
+nothing_left i h = omega arith
 
-pub placed_full : (image : ImageData) (a i : ℕ) (X : Type 0) → i ≡ 64 → (ArePlaced (block_up_to image (64 - i) a) → X) → X
+no_block : (image : ImageData) (a : ℕ) → block_up_to image 0 a ≡ []
 unfolding block_up_to
-placed_full image a i X e inv = subst (λ (k : ℕ). ArePlaced (block_up_to image (64 - k) a) → X) e inv tt
+no_block image a = refl
+
+over : (image : ImageData) (a i : ℕ) → 64 ≤ i → block_up_to image (64 - i) a ≡ []
+over image a i h = ap (λ (k : ℕ). block_up_to image k a) (nothing_left i h) ∙ no_block image a
+
+pub span_full : {A : Type 0} (F : List Placed → List A) (image : ImageData) (a i : ℕ) (old X : List A) → F [] ≡ [] → 64 ≤ i → old ++ F (block_up_to image (64 - i) a) ≡ X → old ≡ X
+span_full {A = A} F image a i old X none h inv =
+    sym (append-nil old) ∙ ap (λ (l : List A). old ++ l) (sym none) ∙ ap (λ (l : List Placed). old ++ F l) (sym (over image a i h)) ∙ inv
+
+pub placed_full : (image : ImageData) (a i : ℕ) (X : Type 0) → 64 ≤ i → (ArePlaced (block_up_to image (64 - i) a) → X) → X
+placed_full image a i X h inv = inv (subst ArePlaced (sym (over image a i h)) tt)
 
 -- ---- instructions that follow one another
 
