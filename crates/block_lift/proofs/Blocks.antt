@@ -33,7 +33,7 @@ use Rattle.machine_model.specs.Follow.{Lifts}
 use Rattle.machine_model.specs.Faithful.{AreFaithful, block_parts, lifted_all, takes_answer}
 use Rattle.machine_model.specs.Block.{IsFaithful, IsFaithfulTo, block_of, bytes_of, front, lifted_block, trap_block}
 use Rattle.block_lift.specs.Liftable.{ArePlaced, CountFits, IsPlaced}
-use Rattle.block_lift.specs.Steps.{unstripped, unstripped_block}
+use Rattle.block_lift.specs.Steps.{going_on, unstripped, unstripped_block}
 use Rattle.block_lift.proofs.Following.{AreRun, IsWhole, LeadsTo, WantsAt, are_faithful}
 use Rattle.block_lift.proofs.Ready.{Typed, kinds}
 use Rattle.block_lift.proofs.Typing.{GoesOn, Good, good}
@@ -75,11 +75,13 @@ none_begins image n a e = begins image n a ∙ ap (block_from (block_up_to image
 some_begins : (image : ImageData) (n a : ℕ) (x : Instr × ℕ) → instr_at image a ≡ Some x → block_up_to image (suc n) a ≡ block_with (block_up_to image n) (placed a x)
 some_begins image n a x e = begins image n a ∙ ap (block_from (block_up_to image n) a) e
 
-pub ends_there : (image : ImageData) (n a : ℕ) (x : Instr × ℕ) → instr_at image a ≡ Some x → is_transfer x.0 ≡ true → block_up_to image (suc n) a ≡ placed a x ∷ []
-ends_there image n a x e t = some_begins image n a x e ∙ ap (λ (b : Bool). placed a x ∷ (if b then [] else block_up_to image n ((a + x.1) % 2 ^ 64))) t
+rest_is : (image : ImageData) (n a : ℕ) (transfer : Bool) → (if transfer then [] else block_up_to image n a) ≡ going_on image n (if transfer then None else Some a)
+rest_is image n a true = refl
+rest_is image n a false = refl
 
-pub goes_on_there : (image : ImageData) (n a : ℕ) (x : Instr × ℕ) → instr_at image a ≡ Some x → is_transfer x.0 ≡ false → block_up_to image (suc n) a ≡ placed a x ∷ block_up_to image n ((a + x.1) % 2 ^ 64)
-goes_on_there image n a x e t = some_begins image n a x e ∙ ap (λ (b : Bool). placed a x ∷ (if b then [] else block_up_to image n ((a + x.1) % 2 ^ 64))) t
+pub begins_with : (image : ImageData) (n a : ℕ) (x : Instr × ℕ) (on : Option ℕ) → instr_at image a ≡ Some x → on ≡ (if is_transfer x.0 then None else Some ((a + x.1) % 2 ^ 64)) → block_up_to image (suc n) a ≡ placed a x ∷ going_on image n on
+begins_with image n a x on e t =
+    some_begins image n a x e ∙ ap (λ (l : List Placed). placed a x ∷ l) (rest_is image n ((a + x.1) % 2 ^ 64) (is_transfer x.0) ∙ ap (going_on image n) (sym t))
 
 -- ---- bytes and parts onto those before them
 
@@ -291,9 +293,10 @@ counted (p ∷ ps) e = omega arith
 
 typed_blocks : (wants : Cpu → Want) (at : ℕ) (code : List ℕ) (is : List Placed) → Chained wants is → IsWellTyped (record { at = at; code = code; parts = unstripped is })
 typed_blocks wants at code [] h = (omega arith, refl)
-typed_blocks wants at code (i ∷ is) h =
-    (counted (lifted_all (i ∷ is)) (some_part _ (lifted i.instr i.next) (lifted_all is) (is_transfer i.instr) (placed_good i None None None None None None None None h.1)),
-     all_typed wants (i ∷ is) h unwritten refl)
+typed_blocks wants at code (i ∷ is) h = (
+  counted (lifted_all (i ∷ is)) (some_part _ (lifted i.instr i.next) (lifted_all is) (is_transfer i.instr) (placed_good i None None None None None None None None h.1)),
+  all_typed wants (i ∷ is) h unwritten refl,
+)
 
 pub unstripped_typed : (image : ImageData) (a : ℕ) → ArePlaced (block_at image a) → IsWellTyped (unstripped_block image a)
 unstripped_typed image a h = typed_blocks (want image) a (bytes_of image (block_at image a)) (block_at image a) (chained image 64 a h)

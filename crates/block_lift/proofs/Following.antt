@@ -100,14 +100,17 @@ GoesTo (j ∷ js) a = a ≡ j.at
 
 -- where an instruction ends, a state that agrees with one that goes on as the thread does matches the thread after it
 after_matches : (is : List Placed) (a : ℕ) (v u : Virtual) (t : Cpu) → GoesTo is a → AgreesBefore (kept_parts (lifted_all is)) no_temps u v → Onward a u t → MatchesAfter is (kept_parts (lifted_all is)) a v t
-after_matches [] a v u t to k o = (o.0, record {
-  regs = sym k.regs ∙ o.1.regs;
-  flags = all_flags_agree v u k.flags ∙ o.1.flags;
-  mid = o.1.mid;
-  count = o.1.count;
-  each = o.1.each;
-  temps = sym k.room ∙ o.1.temps;
-})
+after_matches [] a v u t to k o = (
+  o.0,
+  record {
+    regs = sym k.regs ∙ o.1.regs;
+    flags = all_flags_agree v u k.flags ∙ o.1.flags;
+    mid = o.1.mid;
+    count = o.1.count;
+    each = o.1.each;
+    temps = sym k.room ∙ o.1.temps;
+  },
+)
 after_matches (j ∷ js) a v u t to k o = record {
   stands = sym o.0 ∙ to;
   mid = o.1.mid;
@@ -151,13 +154,13 @@ last_follows p ops i is z u v E more alike alone lead k h s =
     let rest = kept_parts (lifted_all is) in
     let q = with_ops p ops in
     let states : AgreesBefore rest no_temps (does p u).state (does q v).state =
-        subst (λ (y : Virtual). AgreesBefore rest no_temps (does p u).state y) (unanswered p.end 0 (does q v).state alone)
-        (subst (λ (y : Virtual). AgreesBefore rest no_temps y (answered p.end 0 (does q v).state)) (unanswered p.end 0 (does p u).state alone) (alike.again u v 0 k)) in
+    subst (λ (y : Virtual). AgreesBefore rest no_temps (does p u).state y) (unanswered p.end 0 (does q v).state alone)
+    (subst (λ (y : Virtual). AgreesBefore rest no_temps y (answered p.end 0 (does q v).state)) (unanswered p.end 0 (does p u).state alone) (alike.again u v 0 k)) in
     subst (λ (r : Request). Meets r z i.next (λ a t. MatchesAfter is rest a (does q v).state t) (λ n. (x : ℕ) → x < 2 ^ n → MatchesWithin q rest i.at (answered p.end x (does q v).state) (having s x))) (alike.request u v k)
     (ended_meets p.end (did_all p.ops u) z i.next _ (λ a t. MatchesAfter is rest a (does q v).state t) more (λ n. (x : ℕ) → x < 2 ^ n → MatchesWithin q rest i.at (answered p.end x (does q v).state) (having s x))
-        (λ a t e on o. after_matches is a (does q v).state (does p u).state t (leads p.end i.next a is lead on) states o.1)
-        (λ n e same m. absurd (cc))
-        h)
+    (λ a t e on o. after_matches is a (does q v).state (does p u).state t (leads p.end i.next a is lead on) states o.1)
+    (λ n e same m. absurd (cc))
+    h)
 
 -- ---- an instruction of one part
 
@@ -215,9 +218,9 @@ first_follows wants i is p p2 ops parts stands lift alike answer v s m =
     subst (λ (z : Want). Meets (does q v).request z i.next (λ a t. MatchesAfter is parts a (does q v).state t) (λ n. (x : ℕ) → x < 2 ^ n → MatchesWithin q parts i.at (answered p.end x (does q v).state) (having s x))) (sym (stands s m.stands))
     (subst (λ (r : Request). Meets r (want_of i.instr i.next s) i.next (λ a t. MatchesAfter is parts a (does q v).state t) (λ n. (x : ℕ) → x < 2 ^ n → MatchesWithin q parts i.at (answered p.end x (does q v).state) (having s x))) (alike.request u v k)
     (ended_meets p.end (did_all p.ops u) (want_of i.instr i.next s) i.next _ (λ a t. MatchesAfter is parts a (does q v).state t) _ (λ n. (x : ℕ) → x < 2 ^ n → MatchesWithin q parts i.at (answered p.end x (does q v).state) (having s x))
-        (λ a t e on o. absurd (cc))
-        (λ n e bits f. λ x below. within_matches p ops parts i.at n x v s alike m bits below (f x below).0)
-        h))
+    (λ a t e on o. absurd (cc))
+    (λ n e bits f. λ x below. within_matches p ops parts i.at n x v s alike m bits below (f x below).0)
+    h))
 
 -- a thread within an instruction, before it loaded anything
 abbrev earlier : Cpu → Cpu

@@ -66,9 +66,13 @@ at_64 z e = ap (is_of_bits 64) e
 one_operand : (a b c d e f g h : Option ℕ) (next : ℕ) (w : Width) (o : Operand) (ops : List Op) (end : PartEnd) (transfer : Bool) → OperandFits w o → takes_answer end ≡ false → GoesOn transfer end
     → ((T : Types) (z : Option ℕ) → (is_memory o ≡ true → z ≡ Some 64) → Ready T (reads w o 1) (kinds z (Some (num w)) c d e f g h) → Typed T (part ops end))
     → Good (kinds a b c d e f g h) (loads next w o 1 ++ alone ops end) transfer
-one_operand a b c d e f g h next w (operand.Mem m) ops end transfer fits quiet on last =
-    (refl, part_typed (kinds a b c d e f g h) _ _ (kinds (Some 64) b c d e f g h) (one_ready _ _ (address_typed (kinds a b c d e f g h) next m fits)) refl, quiet,
-     last (kinds (Some 64) (Some (num w)) c d e f g h) (Some 64) (λ _. refl) (reads_ready w (operand.Mem m) 1 _ fits refl (λ _. refl)), on)
+one_operand a b c d e f g h next w (operand.Mem m) ops end transfer fits quiet on last = (
+  refl,
+  part_typed (kinds a b c d e f g h) _ _ (kinds (Some 64) b c d e f g h) (one_ready _ _ (address_typed (kinds a b c d e f g h) next m fits)) refl,
+  quiet,
+  last (kinds (Some 64) (Some (num w)) c d e f g h) (Some 64) (λ _. refl) (reads_ready w (operand.Mem m) 1 _ fits refl (λ _. refl)),
+  on,
+)
 one_operand a b c d e f g h next w o ops end transfer fits quiet on last =
     (quiet, last (kinds a b c d e f g h) a (λ y. absurd (cc)) (reads_ready w o 1 _ fits refl (λ y. absurd (cc))), on)
 
@@ -77,17 +81,28 @@ two_operands : (a b c d e f g h : Option ℕ) (next : ℕ) (w : Width) (dst src 
     → ((T : Types) (z : Option ℕ) → (is_memory dst ≡ true → z ≡ Some 64) → Ready T (both_read w dst src) (kinds z (Some (num w)) (Some (num w)) d e f g h) → Typed T (part ops end))
     → Good (kinds a b c d e f g h) (loads next w dst 1 ++ (loads next w src 2 ++ alone ops end)) transfer
 two_operands a b c d e f g h next w (operand.Mem m) (operand.Mem k) ops end transfer fits fits2 apart quiet on last = absurd (cc)
-two_operands a b c d e f g h next w (operand.Mem m) src ops end transfer fits fits2 apart quiet on last =
-    (refl, part_typed (kinds a b c d e f g h) _ _ (kinds (Some 64) b c d e f g h) (one_ready _ _ (address_typed (kinds a b c d e f g h) next m fits)) refl, quiet,
-     last (kinds (Some 64) (Some (num w)) c d e f g h) (Some 64) (λ _. refl)
-       (both_ready _ (reads w (operand.Mem m) 1) (reads w src 2) (kinds (Some 64) (Some (num w)) c d e f g h) _ (reads_ready w (operand.Mem m) 1 _ fits refl (λ _. refl)) (reads_ready w src 2 _ fits2 refl (λ y. absurd (cc)))), on)
-two_operands a b c d e f g h next w dst (operand.Mem m) ops end transfer fits fits2 apart quiet on last =
-    (refl, part_typed (kinds a b c d e f g h) _ _ (kinds (Some 64) b c d e f g h) (one_ready _ _ (address_typed (kinds a b c d e f g h) next m fits2)) refl, quiet,
-     last (kinds (Some 64) b (Some (num w)) d e f g h) (Some 64) (λ _. refl)
-       (both_ready _ (reads w dst 1) (reads w (operand.Mem m) 2) (kinds (Some 64) (Some (num w)) (Some (num w)) d e f g h) _ (reads_ready w dst 1 _ fits refl (λ y. absurd (cc))) (reads_ready w (operand.Mem m) 2 _ fits2 refl (λ _. refl))), on)
-two_operands a b c d e f g h next w dst src ops end transfer fits fits2 apart quiet on last =
-    (quiet, last (kinds a b c d e f g h) a (λ y. absurd (cc))
-       (both_ready _ (reads w dst 1) (reads w src 2) (kinds a (Some (num w)) c d e f g h) _ (reads_ready w dst 1 _ fits refl (λ y. absurd (cc))) (reads_ready w src 2 _ fits2 refl (λ y. absurd (cc)))), on)
+two_operands a b c d e f g h next w (operand.Mem m) src ops end transfer fits fits2 apart quiet on last = (
+  refl,
+  part_typed (kinds a b c d e f g h) _ _ (kinds (Some 64) b c d e f g h) (one_ready _ _ (address_typed (kinds a b c d e f g h) next m fits)) refl,
+  quiet,
+  last (kinds (Some 64) (Some (num w)) c d e f g h) (Some 64) (λ _. refl)
+      (both_ready _ (reads w (operand.Mem m) 1) (reads w src 2) (kinds (Some 64) (Some (num w)) c d e f g h) _ (reads_ready w (operand.Mem m) 1 _ fits refl (λ _. refl)) (reads_ready w src 2 _ fits2 refl (λ y. absurd (cc)))),
+  on,
+)
+two_operands a b c d e f g h next w dst (operand.Mem m) ops end transfer fits fits2 apart quiet on last = (
+  refl,
+  part_typed (kinds a b c d e f g h) _ _ (kinds (Some 64) b c d e f g h) (one_ready _ _ (address_typed (kinds a b c d e f g h) next m fits2)) refl,
+  quiet,
+  last (kinds (Some 64) b (Some (num w)) d e f g h) (Some 64) (λ _. refl)
+      (both_ready _ (reads w dst 1) (reads w (operand.Mem m) 2) (kinds (Some 64) (Some (num w)) (Some (num w)) d e f g h) _ (reads_ready w dst 1 _ fits refl (λ y. absurd (cc))) (reads_ready w (operand.Mem m) 2 _ fits2 refl (λ _. refl))),
+  on,
+)
+two_operands a b c d e f g h next w dst src ops end transfer fits fits2 apart quiet on last = (
+  quiet,
+  last (kinds a b c d e f g h) a (λ y. absurd (cc))
+      (both_ready _ (reads w dst 1) (reads w src 2) (kinds a (Some (num w)) c d e f g h) _ (reads_ready w dst 1 _ fits refl (λ y. absurd (cc))) (reads_ready w src 2 _ fits2 refl (λ y. absurd (cc)))),
+  on,
+)
 
 -- ---- families
 
@@ -165,8 +180,8 @@ computed_good op a b c d e f g h next w dst src fits =
     let ops = Calc (alu_family op) (ir_width w) 3 1 (Some 2) ∷ alu_lines op w in
     two_operands a b c d e f g h next w dst src ((both_read w dst src ++ ops) ++ puts w dst 3) (end_at w dst 3) false fits.target.fits fits.source fits.one_memory (end_at_alone w dst 3) (λ _. end_at_goes_on w dst 3)
     (λ T z at r. given_typed T (both_read w dst src ++ ops) (kinds z (Some (num w)) (Some (num w)) (Some (num w)) e f g h) w dst 3 fits.target
-        (both_ready T (both_read w dst src) ops _ _ r (line_ready (kinds z (Some (num w)) (Some (num w)) d e f g h) _ (alu_lines op w) _ (and_from _ _ (alu_result op) (alu_operands op (num w) 1 2 (kinds z (Some (num w)) (Some (num w)) d e f g h) (same_num w) (same_num w))) (alu_lines_ready op w (kinds z (Some (num w)) (Some (num w)) (Some (num w)) e f g h) (same_num w) (same_num w))))
-        (same_num w) (λ y. at_64 z (at y)))
+    (both_ready T (both_read w dst src) ops _ _ r (line_ready (kinds z (Some (num w)) (Some (num w)) d e f g h) _ (alu_lines op w) _ (and_from _ _ (alu_result op) (alu_operands op (num w) 1 2 (kinds z (Some (num w)) (Some (num w)) d e f g h) (same_num w) (same_num w))) (alu_lines_ready op w (kinds z (Some (num w)) (Some (num w)) (Some (num w)) e f g h) (same_num w) (same_num w))))
+    (same_num w) (λ y. at_64 z (at y)))
 
 alu_good : (op : AluOp) → AluGood op
 alu_good alu.Cmp a b c d e f g h next w dst src fits = tested_good alu.Cmp a b c d e f g h next w dst src fits
@@ -179,8 +194,8 @@ one_good a b c d e f g h next op w dst fits =
     let ops = Calc (one_family op) (ir_width w) 3 1 None ∷ lines in
     one_operand a b c d e f g h next w dst ((reads w dst 1 ++ ops) ++ puts w dst 3) (end_at w dst 3) false fits.fits (end_at_alone w dst 3) (λ _. end_at_goes_on w dst 3)
     (λ T z at r. given_typed T (reads w dst 1 ++ ops) (kinds z (Some (num w)) c (Some (num w)) e f g h) w dst 3 fits
-        (both_ready T (reads w dst 1) ops _ _ r (line_ready (kinds z (Some (num w)) c d e f g h) _ lines _ (and_from _ _ (one_result op) (one_operands op (num w) 1 (kinds z (Some (num w)) c d e f g h) (same_num w))) (flags_ready (one_flags op) (one_family op) w 1 None _ (one_puts op) (one_operands op (num w) 1 (kinds z (Some (num w)) c (Some (num w)) e f g h) (same_num w)))))
-        (same_num w) (λ y. at_64 z (at y)))
+    (both_ready T (reads w dst 1) ops _ _ r (line_ready (kinds z (Some (num w)) c d e f g h) _ lines _ (and_from _ _ (one_result op) (one_operands op (num w) 1 (kinds z (Some (num w)) c d e f g h) (same_num w))) (flags_ready (one_flags op) (one_family op) w 1 None _ (one_puts op) (one_operands op (num w) 1 (kinds z (Some (num w)) c (Some (num w)) e f g h) (same_num w)))))
+    (same_num w) (λ y. at_64 z (at y)))
 
 count_ready : (a b c d e f g h : Option ℕ) (count : Option ℕ) → IsCount count → Ready (kinds a b c d e f g h) (count_line count ∷ []) (kinds a b (Some 8) d e f g h)
 count_ready a b c d e f g h None fits = record { typed = refl; leaves = refl }
@@ -197,9 +212,9 @@ shift_good a b c d e f g h next op w dst count sized counted fits =
     let ops = count_line count ∷ calc ∷ lines in
     one_operand a b c d e f g h next w dst ((reads w dst 1 ++ ops) ++ puts w dst 3) (end_at w dst 3) false fits.fits (end_at_alone w dst 3) (λ _. end_at_goes_on w dst 3)
     (λ T z at r. given_typed T (reads w dst 1 ++ ops) (kinds z (Some (num w)) (Some 8) (Some (num w)) e f g h) w dst 3 fits
-        (both_ready T (reads w dst 1) ops _ _ r (both_ready _ (count_line count ∷ []) (calc ∷ lines) _ _ (count_ready z (Some (num w)) c d e f g h count counted)
-            (line_ready (kinds z (Some (num w)) (Some 8) d e f g h) calc lines _ (and_from _ _ (shift_result op) (shift_operands op w 1 2 (kinds z (Some (num w)) (Some 8) d e f g h) sized (same_num w) refl)) (counted_ready op w count (kinds z (Some (num w)) (Some 8) (Some (num w)) e f g h) sized (same_num w) refl))))
-        (same_num w) (λ y. at_64 z (at y)))
+    (both_ready T (reads w dst 1) ops _ _ r (both_ready _ (count_line count ∷ []) (calc ∷ lines) _ _ (count_ready z (Some (num w)) c d e f g h count counted)
+    (line_ready (kinds z (Some (num w)) (Some 8) d e f g h) calc lines _ (and_from _ _ (shift_result op) (shift_operands op w 1 2 (kinds z (Some (num w)) (Some 8) d e f g h) sized (same_num w) refl)) (counted_ready op w count (kinds z (Some (num w)) (Some 8) (Some (num w)) e f g h) sized (same_num w) refl))))
+    (same_num w) (λ y. at_64 z (at y)))
 
 mul_ready : (z c d e f g h : Option ℕ) (signed : Bool) (w : Width) → IsWide w → Ready (kinds z (Some (num w)) c d e f g h) (mul_ops signed w) (kinds z (Some (num w)) (Some (num w)) (Some (num w)) (Some (num w)) f g h)
 mul_ready z c d e f g h signed W8 wide = absurd wide
@@ -239,7 +254,7 @@ product_good a b c d e f g h next w dst x y wide below fits fits2 apart =
     let ops = Calc family.Mul (ir_width w) 3 2 (Some 1) ∷ product_lines true w in
     two_operands a b c d e f g h next w x y ((both_read w x y ++ ops) ++ puts w (operand.Reg dst) 3) (end_at w (operand.Reg dst) 3) false fits fits2 apart refl (λ _. refl)
     (λ T z at r. given_typed T (both_read w x y ++ ops) (kinds z (Some (num w)) (Some (num w)) (Some (num w)) e f g h) w (operand.Reg dst) 3 (register_place w dst below)
-        (both_ready T (both_read w x y) ops _ _ r (low_ready z d e f g h w wide)) (same_num w) (λ k. absurd (cc)))
+    (both_ready T (both_read w x y) ops _ _ r (low_ready z d e f g h w wide)) (same_num w) (λ k. absurd (cc)))
 
 swapped : (x y : Bool) → (x && y) ≡ false → (y && x) ≡ false
 swapped true true e = e
@@ -256,9 +271,12 @@ imul_good a b c d e f g h next w dst x y wide below fits =
 
 mov_good : (a b c d e f g h : Option ℕ) (next : ℕ) (w : Width) (dst src : Operand) → PairFits w dst src → Good (kinds a b c d e f g h) (loads next w src 1 ++ given_at (addressed next dst ++ reads w src 1) w dst 1) false
 mov_good a b c d e f g h next w (operand.Mem m) (operand.Mem k) fits = let no : ⊥ = cc fits.one_memory in absurd no
-mov_good a b c d e f g h next w (operand.Mem m) src fits =
-    (refl, given_typed (kinds a b c d e f g h) (address_line next m ∷ reads w src 1) (kinds (Some 64) (Some (num w)) c d e f g h) w (operand.Mem m) 1 fits.target
-        (line_ready _ _ (reads w src 1) _ (address_typed (kinds a b c d e f g h) next m fits.target.fits) (reads_ready w src 1 (kinds (Some 64) b c d e f g h) fits.source refl (λ y. absurd (cc)))) (same_num w) (λ _. refl), λ _. refl)
+mov_good a b c d e f g h next w (operand.Mem m) src fits = (
+  refl,
+  given_typed (kinds a b c d e f g h) (address_line next m ∷ reads w src 1) (kinds (Some 64) (Some (num w)) c d e f g h) w (operand.Mem m) 1 fits.target
+      (line_ready _ _ (reads w src 1) _ (address_typed (kinds a b c d e f g h) next m fits.target.fits) (reads_ready w src 1 (kinds (Some 64) b c d e f g h) fits.source refl (λ y. absurd (cc)))) (same_num w) (λ _. refl),
+  λ _. refl,
+)
 mov_good a b c d e f g h next w (operand.Imm n) src fits = let no : ⊥ = cc fits.target.place in absurd no
 mov_good a b c d e f g h next w dst src fits =
     one_operand a b c d e f g h next w src (reads w src 1 ++ puts w dst 1) (end_at w dst 1) false fits.source (end_at_alone w dst 1) (λ _. end_at_goes_on w dst 1)
@@ -295,7 +313,7 @@ widened_good : (a b c d e f g h : Option ℕ) (next : ℕ) (from w : Width) (src
 widened_good a b c d e f g h next from w src dst ops below fits ready =
     one_operand a b c d e f g h next from src ((reads from src 1 ++ ops) ++ puts w (operand.Reg dst) 2) (end_at w (operand.Reg dst) 2) false fits refl (λ _. refl)
     (λ T z at r. given_typed T (reads from src 1 ++ ops) (kinds z (Some (num from)) (Some (num w)) d e f g h) w (operand.Reg dst) 2 (register_place w dst below)
-        (both_ready T (reads from src 1) ops _ _ r (ready z)) (same_num w) (λ k. absurd (cc)))
+    (both_ready T (reads from src 1) ops _ _ r (ready z)) (same_num w) (λ k. absurd (cc)))
 
 lea_good : (a b c d e f g h : Option ℕ) (next : ℕ) (w : Width) (dst : ℕ) (m : Mem) → IsOver8 w → dst < 16 → MemFits m → Good (kinds a b c d e f g h) (lea_parts next w dst m) false
 lea_good a b c d e f g h next W8 dst m over below fits = absurd over
@@ -333,17 +351,24 @@ read_both a b c d e f g h w x y fits fits2 quiet no2 =
 xchg_good : (a b c d e f g h : Option ℕ) (next : ℕ) (w : Width) (x y : Operand) → PlaceFits w x → RegisterFits w y → Good (kinds a b c d e f g h) (xchg_parts next w x y) false
 xchg_good a b c d e f g h next w (operand.Mem m) (operand.Mem k) fits fits2 = let no : ⊥ = cc fits2.no_memory in absurd no
 xchg_good a b c d e f g h next w (operand.Mem m) (operand.Imm n) fits fits2 = let no : ⊥ = cc fits2.place in absurd no
-xchg_good a b c d e f g h next w (operand.Mem m) y fits fits2 =
-    (refl, part_typed (kinds a b c d e f g h) (address_line next m ∷ reads w y 1) (ends.Locked lock.Xchg (ir_width w) 2 0 1) (kinds (Some 64) (Some (num w)) c d e f g h) (line_ready _ _ (reads w y 1) _ (address_typed (kinds a b c d e f g h) next m fits.fits) (reads_ready w y 1 (kinds (Some 64) b c d e f g h) fits2.fits refl (λ k. absurd (cc)))) (same_num w),
-     refl, given_typed _ [] _ w y 2 (place_of w y fits2) (nil_ready _) (same_num w) (λ k. absurd (cc)), λ _. refl)
+xchg_good a b c d e f g h next w (operand.Mem m) y fits fits2 = (
+  refl,
+  part_typed (kinds a b c d e f g h) (address_line next m ∷ reads w y 1) (ends.Locked lock.Xchg (ir_width w) 2 0 1) (kinds (Some 64) (Some (num w)) c d e f g h) (line_ready _ _ (reads w y 1) _ (address_typed (kinds a b c d e f g h) next m fits.fits) (reads_ready w y 1 (kinds (Some 64) b c d e f g h) fits2.fits refl (λ k. absurd (cc)))) (same_num w),
+  refl,
+  given_typed _ [] _ w y 2 (place_of w y fits2) (nil_ready _) (same_num w) (λ k. absurd (cc)),
+  λ _. refl,
+)
 xchg_good a b c d e f g h next w (operand.Imm n) y fits fits2 = let no : ⊥ = cc fits.place in absurd no
 xchg_good a b c d e f g h next w (operand.Reg r) y fits fits2 = exchanged_good a b c d e f g h w (operand.Reg r) y fits (place_of w y fits2) (read_both a b c d e f g h w (operand.Reg r) y fits.fits fits2.fits refl fits2.no_memory)
 xchg_good a b c d e f g h next w (operand.High r) y fits fits2 = exchanged_good a b c d e f g h w (operand.High r) y fits (place_of w y fits2) (read_both a b c d e f g h w (operand.High r) y fits.fits fits2.fits refl fits2.no_memory)
 
 set_good : (a b c d e f g h : Option ℕ) (next : ℕ) (kind : Condition) (dst : Operand) → PlaceFits W8 dst → Good (kinds a b c d e f g h) (given_at (addressed next dst ++ (Cond 1 (ir_cond kind) ∷ Zext 1 ir.W8 2 1 ∷ [])) W8 dst 2) false
-set_good a b c d e f g h next kind (operand.Mem m) fits =
-    (refl, given_typed (kinds a b c d e f g h) (address_line next m ∷ Cond 1 (ir_cond kind) ∷ Zext 1 ir.W8 2 1 ∷ []) (kinds (Some 64) (Some 1) (Some 8) d e f g h) W8 (operand.Mem m) 2 fits
-        (line_ready _ _ (Cond 1 (ir_cond kind) ∷ Zext 1 ir.W8 2 1 ∷ []) _ (address_typed (kinds a b c d e f g h) next m fits.fits) (record { typed = refl; leaves = refl })) refl (λ _. refl), λ _. refl)
+set_good a b c d e f g h next kind (operand.Mem m) fits = (
+  refl,
+  given_typed (kinds a b c d e f g h) (address_line next m ∷ Cond 1 (ir_cond kind) ∷ Zext 1 ir.W8 2 1 ∷ []) (kinds (Some 64) (Some 1) (Some 8) d e f g h) W8 (operand.Mem m) 2 fits
+      (line_ready _ _ (Cond 1 (ir_cond kind) ∷ Zext 1 ir.W8 2 1 ∷ []) _ (address_typed (kinds a b c d e f g h) next m fits.fits) (record { typed = refl; leaves = refl })) refl (λ _. refl),
+  λ _. refl,
+)
 set_good a b c d e f g h next kind (operand.Imm n) fits = let no : ⊥ = cc fits.place in absurd no
 set_good a b c d e f g h next kind dst fits =
     (end_at_alone W8 dst 2, given_typed (kinds a b c d e f g h) (Cond 1 (ir_cond kind) ∷ Zext 1 ir.W8 2 1 ∷ []) (kinds a (Some 1) (Some 8) d e f g h) W8 dst 2 fits (record { typed = refl; leaves = refl }) refl (λ k. absurd (cc)), λ _. end_at_goes_on W8 dst 2)
@@ -359,7 +384,7 @@ cmov_good a b c d e f g h next kind w dst src wide below fits =
     let ops = Get (ir_width w) 2 dst ∷ Cond 3 (ir_cond kind) ∷ Pick (ir_width w) 4 3 1 2 ∷ [] in
     one_operand a b c d e f g h next w src ((reads w src 1 ++ ops) ++ puts w (operand.Reg dst) 4) (end_at w (operand.Reg dst) 4) false fits.fits refl (λ _. refl)
     (λ T z at r. given_typed T (reads w src 1 ++ ops) (kinds z (Some (num w)) (Some (num w)) (Some 1) (Some (num w)) f g h) w (operand.Reg dst) 4 (register_place w dst below)
-        (both_ready T (reads w src 1) ops _ _ r (pick_ready z c d e f g h kind w dst wide below)) (same_num w) (λ k. absurd (cc)))
+    (both_ready T (reads w src 1) ops _ _ r (pick_ready z c d e f g h kind w dst wide below)) (same_num w) (λ k. absurd (cc)))
 
 -- ---- the stack and transfers
 
@@ -369,9 +394,13 @@ push_good a b c d e f g h next src fits =
     (λ T z at r. part_typed T _ _ (kinds z (Some 64) (Some 64) d e f g h) (both_ready T (reads W64 src 1) pushed _ _ r (record { typed = refl; leaves = refl })) refl)
 
 pop_good : (a b c d e f g h : Option ℕ) (dst : ℕ) → dst < 16 → Good (kinds a b c d e f g h) (popped 4 ∷ alone (stack_at 4 8 ++ (Put ir.W64 dst 1 ∷ [])) ends.Tick) false
-pop_good a b c d e f g h dst below =
-    (refl, record { ops = refl; ends = refl }, refl,
-     part_typed (kinds (Some 64) (Some 64) c d e f g h) _ ends.Tick _ (both_ready _ (stack_at 4 8) (Put ir.W64 dst 1 ∷ []) (kinds (Some 64) (Some 64) (Some 64) d e f g h) _ (record { typed = refl; leaves = refl }) (one_ready _ (Put ir.W64 dst 1) (and_from _ _ (lt-ltb dst 16 below) refl))) refl, λ _. refl)
+pop_good a b c d e f g h dst below = (
+  refl,
+  record { ops = refl; ends = refl },
+  refl,
+  part_typed (kinds (Some 64) (Some 64) c d e f g h) _ ends.Tick _ (both_ready _ (stack_at 4 8) (Put ir.W64 dst 1 ∷ []) (kinds (Some 64) (Some 64) (Some 64) d e f g h) _ (record { typed = refl; leaves = refl }) (one_ready _ (Put ir.W64 dst 1) (and_from _ _ (lt-ltb dst 16 below) refl))) refl,
+  λ _. refl,
+)
 
 -- a transfer may leave the block
 leaves_block : (end : PartEnd) → GoesOn true end
@@ -385,20 +414,26 @@ next_ready : (T : Types) (next : ℕ) → next < 2 ^ 64 → is_typed T (Const ir
 next_ready T next below = lt-ltb next (2 ^ 64) below
 
 call_good : (a b c d e f g h : Option ℕ) (next to : ℕ) → next < 2 ^ 64 → Good (kinds a b c d e f g h) (called [] next (Place to)) true
-call_good a b c d e f g h next to below =
-    (refl, part_typed (kinds a b c d e f g h) _ _ (kinds a (Some 64) (Some 64) d e f g h) (both_ready _ pushed (Const ir.W64 1 next ∷ []) (kinds a b (Some 64) d e f g h) _ (record { typed = refl; leaves = refl }) (one_ready (kinds a b (Some 64) d e f g h) (Const ir.W64 1 next) (next_ready unwritten next below))) refl,
-     leaves_block (ends.StoreGo 2 1 (Place to)))
+call_good a b c d e f g h next to below = (
+  refl,
+  part_typed (kinds a b c d e f g h) _ _ (kinds a (Some 64) (Some 64) d e f g h) (both_ready _ pushed (Const ir.W64 1 next ∷ []) (kinds a b (Some 64) d e f g h) _ (record { typed = refl; leaves = refl }) (one_ready (kinds a b (Some 64) d e f g h) (Const ir.W64 1 next) (next_ready unwritten next below))) refl,
+  leaves_block (ends.StoreGo 2 1 (Place to)),
+)
 
 -- the place to call is in temporary 3
 called_typed : (T : Types) (z b c d e f g h : Option ℕ) (next : ℕ) (src : Operand) → next < 2 ^ 64 → Ready T (reads W64 src 3) (kinds z b c (Some 64) e f g h) → Typed T (part (reads W64 src 3 ++ (pushed ++ (Const ir.W64 1 next ∷ []))) (ends.StoreGo 2 1 (Temp 3)))
 called_typed T z b c d e f g h next src below r =
     part_typed T _ _ (kinds z (Some 64) (Some 64) (Some 64) e f g h) (both_ready T (reads W64 src 3) (pushed ++ (Const ir.W64 1 next ∷ [])) _ _ r
-        (both_ready _ pushed (Const ir.W64 1 next ∷ []) (kinds z b (Some 64) (Some 64) e f g h) _ (record { typed = refl; leaves = refl }) (one_ready (kinds z b (Some 64) (Some 64) e f g h) (Const ir.W64 1 next) (next_ready unwritten next below)))) refl
+    (both_ready _ pushed (Const ir.W64 1 next ∷ []) (kinds z b (Some 64) (Some 64) e f g h) _ (record { typed = refl; leaves = refl }) (one_ready (kinds z b (Some 64) (Some 64) e f g h) (Const ir.W64 1 next) (next_ready unwritten next below)))) refl
 
 call_to_good : (a b c d e f g h : Option ℕ) (next : ℕ) (src : Operand) → next < 2 ^ 64 → PlaceFits W64 src → Good (kinds a b c d e f g h) (loads next W64 src 3 ++ called (reads W64 src 3) next (Temp 3)) true
-call_to_good a b c d e f g h next (operand.Mem m) below fits =
-    (refl, part_typed (kinds a b c d e f g h) _ _ (kinds (Some 64) b c d e f g h) (one_ready _ _ (address_typed (kinds a b c d e f g h) next m fits.fits)) refl, refl,
-     called_typed (kinds (Some 64) b c (Some 64) e f g h) (Some 64) b c d e f g h next (operand.Mem m) below (reads_ready W64 (operand.Mem m) 3 _ fits.fits refl (λ _. refl)), leaves_block (ends.StoreGo 2 1 (Temp 3)))
+call_to_good a b c d e f g h next (operand.Mem m) below fits = (
+  refl,
+  part_typed (kinds a b c d e f g h) _ _ (kinds (Some 64) b c d e f g h) (one_ready _ _ (address_typed (kinds a b c d e f g h) next m fits.fits)) refl,
+  refl,
+  called_typed (kinds (Some 64) b c (Some 64) e f g h) (Some 64) b c d e f g h next (operand.Mem m) below (reads_ready W64 (operand.Mem m) 3 _ fits.fits refl (λ _. refl)),
+  leaves_block (ends.StoreGo 2 1 (Temp 3)),
+)
 call_to_good a b c d e f g h next src below fits =
     (refl, called_typed (kinds a b c d e f g h) a b c d e f g h next src below (reads_ready W64 src 3 _ fits.fits refl (λ y. absurd (cc))), leaves_block (ends.StoreGo 2 1 (Temp 3)))
 
@@ -406,9 +441,13 @@ call_to_good a b c d e f g h next src below fits =
 
 -- an address in temporary 0, and a number in temporary 2
 locked_good : (a b c d e f g h : Option ℕ) (kind : LockOp) (w : Width) (before after : List Op) → Ready (kinds a b c d e f g h) before (kinds (Some 64) b (Some (num w)) d e f g h) → Ready (kinds (Some 64) (Some (num w)) (Some (num w)) d e f g h) after (kinds (Some 64) (Some (num w)) (Some (num w)) d e f g h) → Good (kinds a b c d e f g h) (locked_parts before (Some kind) w after) false
-locked_good a b c d e f g h kind w before after r r2 =
-    (refl, part_typed (kinds a b c d e f g h) before (ends.Locked kind (ir_width w) 1 0 2) _ r (same_num w), refl,
-     subst (λ (t : Types). Typed (types_after_end t (ends.Locked kind (ir_width w) 1 0 2)) (part after ends.Tick)) (sym r.leaves) (part_typed (kinds (Some 64) (Some (num w)) (Some (num w)) d e f g h) after ends.Tick _ r2 refl), λ _. refl)
+locked_good a b c d e f g h kind w before after r r2 = (
+  refl,
+  part_typed (kinds a b c d e f g h) before (ends.Locked kind (ir_width w) 1 0 2) _ r (same_num w),
+  refl,
+  subst (λ (t : Types). Typed (types_after_end t (ends.Locked kind (ir_width w) 1 0 2)) (part after ends.Tick)) (sym r.leaves) (part_typed (kinds (Some 64) (Some (num w)) (Some (num w)) d e f g h) after ends.Tick _ r2 refl),
+  λ _. refl,
+)
 
 operand_ready : (a b c d e f g h : Option ℕ) (next : ℕ) (w : Width) (m : Mem) (src : Operand) → MemFits m → OperandFits w src → is_memory src ≡ false → Ready (kinds a b c d e f g h) (address_line next m ∷ reads w src 2) (kinds (Some 64) b (Some (num w)) d e f g h)
 operand_ready a b c d e f g h next w m src fits fits2 quiet =
@@ -452,10 +491,14 @@ cmpxchg_good a b c d e f g h next w m reg fits fits2 =
     let end = ends.LockedCmpxchg (ir_width w) 1 0 3 2 in
     let last = reads w reg 2 ++ (Get (ir_width w) 3 0 ∷ []) in
     let reading : Ready (kinds a b c d e f g h) (address_line next m ∷ last) (kinds (Some 64) b (Some (num w)) (Some (num w)) e f g h) =
-        line_ready _ _ last _ (address_typed (kinds a b c d e f g h) next m fits)
-        (both_ready (kinds (Some 64) b c d e f g h) (reads w reg 2) (Get (ir_width w) 3 0 ∷ []) (kinds (Some 64) b (Some (num w)) d e f g h) _ (reads_ready w reg 2 _ fits2.fits refl (λ k. absurd (cc fits2.no_memory))) (one_ready _ (Get (ir_width w) 3 0) refl)) in
-    (refl, part_typed (kinds a b c d e f g h) _ end _ reading (both_same (num w) (same_num w)), refl,
-     subst (λ (t : Types). Typed (types_after_end t end) (part (flag_lines all_five family.Sub w 3 (Some 1) ++ (Cond 4 E ∷ accumulator_ops w)) ends.Tick)) (sym reading.leaves) (compared_typed (Some (num w)) d e f g h w), λ _. refl)
+    line_ready _ _ last _ (address_typed (kinds a b c d e f g h) next m fits)
+    (both_ready (kinds (Some 64) b c d e f g h) (reads w reg 2) (Get (ir_width w) 3 0 ∷ []) (kinds (Some 64) b (Some (num w)) d e f g h) _ (reads_ready w reg 2 _ fits2.fits refl (λ k. absurd (cc fits2.no_memory))) (one_ready _ (Get (ir_width w) 3 0) refl)) in (
+      refl,
+      part_typed (kinds a b c d e f g h) _ end _ reading (both_same (num w) (same_num w)),
+      refl,
+      subst (λ (t : Types). Typed (types_after_end t end) (part (flag_lines all_five family.Sub w 3 (Some 1) ++ (Cond 4 E ∷ accumulator_ops w)) ends.Tick)) (sym reading.leaves) (compared_typed (Some (num w)) d e f g h w),
+      λ _. refl,
+    )
 
 -- ---- every instruction
 

@@ -14,6 +14,8 @@ mod block;
 pub mod laws;
 mod place;
 mod span;
+#[cfg(test)]
+mod tests;
 
 pub use block::lift_block;
 pub use place::is_code_place;

@@ -26,16 +26,17 @@ returns-in-None-clause-placed c =
     c.loop-i-test.true c.loop-i.invariant.2
 
 pub loop-i-preserved : goal.loop-i-preserved
-loop-i-preserved c =
-    (span_goes_on (bytes_of c.args.image.now) c.args.image.now c.loop-i.at c.in-Some.next c.loop-i.i _ _ _
-        (subst (λ (o : Option ℕ). (n : ℕ) → c.push_instr.new.code.items ++ bytes_of c.args.image.now (going_on c.args.image.now n o) ≡ c.loop-i.code.items ++ bytes_of c.args.image.now (block_up_to c.args.image.now (suc n) c.loop-i.at)) c.in-Some.is c.in_ok-next.ensures.code)
-        c.loop-i-test.true c.loop-i.invariant.0,
-     span_goes_on lifted_all c.args.image.now c.loop-i.at c.in-Some.next c.loop-i.i _ _ _
-        (subst (λ (o : Option ℕ). (n : ℕ) → c.push_instr.new.parts.items ++ lifted_all (going_on c.args.image.now n o) ≡ c.loop-i.parts.items ++ lifted_all (block_up_to c.args.image.now (suc n) c.loop-i.at)) c.in-Some.is c.in_ok-next.ensures.parts)
-        c.loop-i-test.true c.loop-i.invariant.1,
-     placed_goes_on c.args.image.now c.loop-i.at c.in-Some.next c.loop-i.i _
-        (λ n. subst (λ (o : Option ℕ). ArePlaced (going_on c.args.image.now n o) → ArePlaced (block_up_to c.args.image.now (suc n) c.loop-i.at)) c.in-Some.is (c.in_ok-next.ensures.placed n))
-        c.loop-i-test.true c.loop-i.invariant.2)
+loop-i-preserved c = (
+  span_goes_on (bytes_of c.args.image.now) c.args.image.now c.loop-i.at c.in-Some.next c.loop-i.i _ _ _
+      (subst (λ (o : Option ℕ). (n : ℕ) → c.push_instr.new.code.items ++ bytes_of c.args.image.now (going_on c.args.image.now n o) ≡ c.loop-i.code.items ++ bytes_of c.args.image.now (block_up_to c.args.image.now (suc n) c.loop-i.at)) c.in-Some.is c.in_ok-next.ensures.code)
+      c.loop-i-test.true c.loop-i.invariant.0,
+  span_goes_on lifted_all c.args.image.now c.loop-i.at c.in-Some.next c.loop-i.i _ _ _
+      (subst (λ (o : Option ℕ). (n : ℕ) → c.push_instr.new.parts.items ++ lifted_all (going_on c.args.image.now n o) ≡ c.loop-i.parts.items ++ lifted_all (block_up_to c.args.image.now (suc n) c.loop-i.at)) c.in-Some.is c.in_ok-next.ensures.parts)
+      c.loop-i-test.true c.loop-i.invariant.1,
+  placed_goes_on c.args.image.now c.loop-i.at c.in-Some.next c.loop-i.i _
+      (λ n. subst (λ (o : Option ℕ). ArePlaced (going_on c.args.image.now n o) → ArePlaced (block_up_to c.args.image.now (suc n) c.loop-i.at)) c.in-Some.is (c.in_ok-next.ensures.placed n))
+      c.loop-i-test.true c.loop-i.invariant.2,
+)
 
 pub returns-clause-code : goal.returns-clause-code
 returns-clause-code c = span_full (bytes_of c.args.image.now) c.args.image.now c.loop-i.at c.loop-i.i _ _ refl c.loop-i-test.false c.loop-i.invariant.0
