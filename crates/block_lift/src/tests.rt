@@ -3,6 +3,7 @@ use super::*;
 use elf_image::{Image, load};
 use ir_syntax::{Block, Cond, Family, Flag, Op, Part, PartEnd, Seq, Target, Width};
 use std::alloc::{AllocError, Global};
+use std::process::Abort;
 use std::test::Fail;
 
 const W: Width = Width::W32;
@@ -78,9 +79,9 @@ fn program(alloc: Global, code: &[u8]) -> Result<Image, Fail> {
     Ok(image)
 }
 
-fn lifted(rt: &HostRuntime, image: &Image, a: u64) -> Result<Block, Fail> {
+fn lifted(rt: &impl Abort, alloc: Global, image: &Image, a: u64) -> Result<Block, Fail> {
     assert!(rt; is_code_place(image, a));
-    let block = lift_block(rt.alloc(), image, a)?;
+    let block = lift_block(alloc, image, a)?;
     Ok(block)
 }
 
@@ -167,17 +168,17 @@ fn blocks_of_worked_programs(rt: HostRuntime) -> Result<(), Fail> {
     let code = [0x01, 0xd8, 0x39, 0xc8, 0x74, 0x00];
     let image = program(rt.alloc(), &code)?;
     let want = compared(rt.alloc(), &code)?;
-    assert!(rt; lifted(&rt, &image, 0x40_1000)? == want);
+    assert!(rt; lifted(&rt, rt.alloc(), &image, 0x40_1000)? == want);
     let code = [0xbf, 7, 0, 0, 0, 0xe9, 0xf6, 0x0e, 0, 0];
     let image = program(rt.alloc(), &code)?;
     let want = left(rt.alloc(), &code)?;
-    assert!(rt; lifted(&rt, &image, 0x40_1000)? == want);
+    assert!(rt; lifted(&rt, rt.alloc(), &image, 0x40_1000)? == want);
     Ok(())
 }
 
 // The number of bytes and of parts of the block at `a`, and whether it is the trap block.
-fn measure(rt: &HostRuntime, image: &Image, a: u64) -> Result<(usize, usize, bool), Fail> {
-    let block = lifted(rt, image, a)?;
+fn measure(rt: &impl Abort, alloc: Global, image: &Image, a: u64) -> Result<(usize, usize, bool), Fail> {
+    let block = lifted(rt, alloc, image, a)?;
     let parts = block.parts.as_slice();
     let trap = matches!(parts.first(), Some(p) if p.end == PartEnd::BadCode);
     Ok((block.code.as_slice().len(), parts.len(), trap))
@@ -196,7 +197,7 @@ fn spans_end(rt: HostRuntime) -> Result<(), Fail> {
         (0x40_1014, (7, 2, false)),
         (0x40_101b, (0, 1, true)),
     ] {
-        assert!(rt; measure(&rt, &image, a)? == want, "at {a:#x}");
+        assert!(rt; measure(&rt, rt.alloc(), &image, a)? == want, "at {a:#x}");
     }
     let code = vec![in rt.alloc(); 0x90u8; 0x1000]?;
     let image = program(rt.alloc(), &code)?;
@@ -211,7 +212,7 @@ fn spans_end(rt: HostRuntime) -> Result<(), Fail> {
         (0x40_2000, (0, 1, true)),
         (0x50_0000, (0, 1, true)),
     ] {
-        assert!(rt; measure(&rt, &image, a)? == want, "at {a:#x}");
+        assert!(rt; measure(&rt, rt.alloc(), &image, a)? == want, "at {a:#x}");
     }
     assert!(rt; !is_code_place(&image, 0x40_1f10));
     assert!(rt; !is_code_place(&image, 0x7000_00ff_0000));
