@@ -1,0 +1,4 @@
+pub mod Following
+pub mod Ready
+pub mod Typing
+pub mod Blocks

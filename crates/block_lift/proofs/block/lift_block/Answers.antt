@@ -1,0 +1,15 @@
+use Rattle.std.proofs.Common.{◌≡◌, sym, subst}
+use Rattle.ir_syntax.specs.declared.block.Block.{Block}
+use Rattle.ir_syntax.specs.Typed.{IsWellTyped}
+use Rattle.machine_model.specs.Block.{IsFaithful}
+use Rattle.block_lift.proofs.Blocks.{lifted_faithful, stripped_is, unstripped_typed}
+use Rattle.block_lift.proofs.block.lift_block.Goals as goal
+
+pub returns-clause-typed : goal.returns-clause-typed
+returns-clause-typed c =
+    c.strip.ensures.typed (subst (λ (b : Block). IsWellTyped b) (sym c.in_ok-block.ensures.block) (unstripped_typed c.args.image.now c.args.a c.in_ok-block.ensures.placed))
+
+pub returns-clause-faithful : goal.returns-clause-faithful
+returns-clause-faithful c =
+    subst (IsFaithful c.args.image.now) (sym (stripped_is c.args.image.now c.args.a c.in_ok-block.block c.strip.result c.in_ok-block.ensures.block c.strip.ensures.exact))
+    (lifted_faithful c.every_instruction_lifts.ensures c.args.image.now c.args.a c.in_ok-block.ensures.placed)

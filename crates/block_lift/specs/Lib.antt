@@ -1,0 +1,2 @@
+pub mod Liftable
+pub mod Steps
