@@ -6,46 +6,11 @@ ghost use Rattle.x86_forms.specs.Widths.{bits_in};
 ghost use Rattle.x86_model.specs.Operands.{target};
 ghost use Rattle.x86_model.specs.Registers.{half};
 ghost use Rattle.x86_model.specs.Results.{keeps_result};
-ghost use Rattle.machine_model.specs.LiftLines.{ir_width, ir_cond, alu_family, one_family, shift_family, high_family, product_family};
+ghost use Rattle.machine_model.specs.LiftLines.{alu_family, one_family, shift_family, high_family, product_family};
 
-use ir_syntax::{Cond, Family, Width};
+use ir_syntax::Family;
+pub use machine_model::conversions::{ir_cond, ir_width};
 use x86_forms::{AluOp, OneOp, Operand, ShiftOp};
-
-/// A width.
-pub fn ir_width(w: x86_forms::Width) -> Width
-    ensures { result ≡ ir_width w }
-{
-    match w {
-        x86_forms::Width::W8 => Width::W8,
-        x86_forms::Width::W16 => Width::W16,
-        x86_forms::Width::W32 => Width::W32,
-        x86_forms::Width::W64 => Width::W64,
-    }
-}
-
-/// A condition.
-pub fn ir_cond(cc: x86_forms::Cond) -> Cond
-    ensures { result ≡ ir_cond cc }
-{
-    match cc {
-        x86_forms::Cond::O => Cond::O,
-        x86_forms::Cond::No => Cond::No,
-        x86_forms::Cond::B => Cond::B,
-        x86_forms::Cond::Ae => Cond::Ae,
-        x86_forms::Cond::E => Cond::E,
-        x86_forms::Cond::Ne => Cond::Ne,
-        x86_forms::Cond::Be => Cond::Be,
-        x86_forms::Cond::A => Cond::A,
-        x86_forms::Cond::S => Cond::S,
-        x86_forms::Cond::Ns => Cond::Ns,
-        x86_forms::Cond::P => Cond::P,
-        x86_forms::Cond::Np => Cond::Np,
-        x86_forms::Cond::L => Cond::L,
-        x86_forms::Cond::Ge => Cond::Ge,
-        x86_forms::Cond::Le => Cond::Le,
-        x86_forms::Cond::G => Cond::G,
-    }
-}
 
 /// The family of an operation on two operands: that of SUB for CMP, and that of AND for TEST.
 pub fn alu_family(op: AluOp) -> Family

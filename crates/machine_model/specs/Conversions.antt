@@ -1,4 +1,10 @@
 -- One small type of the lower crates as another.
+use Rattle.ir_syntax.specs.declared.request.BadKind.{BadKind as IrBadKind}
+use Rattle.ir_syntax.specs.declared.request.BadKind.TheVariants as ir_bad
+use Rattle.ir_syntax.specs.declared.request.Change.{Change as IrChange}
+use Rattle.ir_syntax.specs.declared.request.Change.TheVariants as ir_made
+use Rattle.ir_syntax.specs.declared.width.Width.{Width as IrWidth}
+use Rattle.ir_syntax.specs.declared.width.Width.TheVariants as ir_size
 use Rattle.lib_table.specs.declared.answer.BadKind.{BadKind}
 use Rattle.lib_table.specs.declared.answer.BadKind.TheVariants as bad
 use Rattle.lib_table.specs.declared.ask.Asked.{Asked}
@@ -42,3 +48,30 @@ kind_of Divide = bad.Divide
 abbrev pub asked_at : Door → Asked
 asked_at End = asked.EndDoor
 asked_at Call = asked.CallDoor
+
+-- ---- what a part asks for
+
+-- the width of an access, for memory
+abbrev pub request_width_of : IrWidth → memory_width.Width
+request_width_of ir_size.W8 = size.W8
+request_width_of ir_size.W16 = size.W16
+request_width_of ir_size.W32 = size.W32
+request_width_of ir_size.W64 = size.W64
+
+-- a locked line's change, for memory
+abbrev pub request_change_of : IrChange → memory_change.Change
+request_change_of (ir_made.Xchg v) = made.Xchg v
+request_change_of (ir_made.Add v) = made.Add v
+request_change_of (ir_made.Sub v) = made.Sub v
+request_change_of (ir_made.And v) = made.And v
+request_change_of (ir_made.Or v) = made.Or v
+request_change_of (ir_made.Xor v) = made.Xor v
+request_change_of (ir_made.Cmpxchg want new) = made.Cmpxchg want new
+
+-- why a part can't be carried out, as a run's ending tells it
+abbrev pub request_kind_of : IrBadKind → BadKind
+request_kind_of ir_bad.Code = bad.Code
+request_kind_of (ir_bad.Access a) = bad.Access a
+request_kind_of ir_bad.Divide = bad.Divide
+request_kind_of ir_bad.Depth = bad.Depth
+request_kind_of ir_bad.Door = bad.Door
