@@ -147,16 +147,14 @@ fn put(file: &mut [u8], at: usize, bytes: &[u8]) {
 }
 
 fn image(alloc: Global, program: &Program) -> Result<Option<Image>, AllocError> {
-    let mut file = vec![in alloc; 0u8; 4672]?;
+    let mut file = vec![in alloc; 0xccu8; 4672]?;
+    put(&mut file, 0, &[0; 576]);
     for (at, value, size) in FILE {
         for i in 0..size.min(8) {
             put(&mut file, at.saturating_add(i), &[value.to_le_bytes()[i]]);
         }
     }
     put(&mut file, 513, NAMES.as_bytes());
-    for b in &mut file[576..] {
-        *b = 0xcc;
-    }
     put(&mut file, 576, program.code);
     put(&mut file, 576 + 0x40, program.data);
     put(&mut file, 576 + 0x100, program.other);
