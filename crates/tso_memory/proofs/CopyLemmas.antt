@@ -21,7 +21,7 @@ pub run_bytes : (ps : List PieceData) (m : Memory) (p : PieceData) (a n i k : �
 run_bytes ps m p a n i k r =
     let rest : n ≤ length (drop k p.bytes) = omega (arith, r.fits, length-drop k p.bytes) in
     bytes_from-is m a n (take n (drop k p.bytes)) (length-take-le n (drop k p.bytes) rest) (λ j within.
-        let place : k + j ≡ a + j - p.at = omega (arith, r.begins) in
-        get_or-take n (drop k p.bytes) j 0 within
-        ∙ (get_or-drop k p.bytes j 0
-        ∙ (ap (λ z. get_or p.bytes z 0) place ∙ sym (ap cell_byte (run_get ps m p a n i k (a + j) r (omega arith) (omega (arith, within)))))))
+    let place : k + j ≡ a + j - p.at = omega (arith, r.begins) in
+    get_or-take n (drop k p.bytes) j 0 within
+    ∙ (get_or-drop k p.bytes j 0
+    ∙ (ap (λ z. get_or p.bytes z 0) place ∙ sym (ap cell_byte (run_get ps m p a n i k (a + j) r (omega arith) (omega (arith, within)))))))
