@@ -1,8 +1,8 @@
 -- The instructions of a block: they stand where they are said to, follow one another, and their parts are typed.
-use Rattle.std.proofs.Common.{◌≡◌, ◌≢◌, ℕ, zero, suc, ◌+◌, ◌-◌, ◌%◌, ◌^◌, ◌<◌, Bool, true, false, ap, sym, subst, refl, ◌∙◌, List, [], ◌∷◌, ◌++◌, length, take, Option, Some, None, arith, append_assoc, append-nil}
+use Rattle.std.proofs.Common.{◌≡◌, ℕ, zero, suc, ◌+◌, ◌-◌, ◌%◌, ◌^◌, ◌<◌, Bool, true, false, ap, sym, subst, refl, ◌∙◌, List, [], ◌∷◌, ◌++◌, length, take, Option, Some, None, arith, append_assoc, append-nil}
 use Rattle.std.proofs.lemmas.Bool.{and_parts, and_from}
 use Rattle.std.proofs.lemmas.List.{length-set}
-use Rattle.std.specs.Prelude.{if◌then◌else◌, ◌&&◌, ◌||◌, IfSome, ◌≤◌, ◌↔◌, ⊤, IsTrue}
+use Rattle.std.specs.Prelude.{if◌then◌else◌, ◌||◌, IfSome, ◌≤◌, ◌↔◌}
 use Rattle.std.specs.Option.{is_none}
 use Rattle.elf_image.specs.Layout.{ImageData, function_at}
 use Rattle.ir_syntax.specs.declared.block.Block.{Block}
@@ -11,7 +11,7 @@ use Rattle.ir_syntax.specs.declared.line.Op.{Op}
 use Rattle.ir_syntax.specs.declared.line.Op.TheVariants.{Get, GetHigh, Put, PutHigh, Const, Ea, Calc, FlagOf, FlagZero, Cond, Pick, Zext, Sext, Cut}
 use Rattle.ir_syntax.specs.declared.line.PartEnd.{PartEnd}
 use Rattle.ir_syntax.specs.declared.line.PartEnd.TheVariants as ends
-use Rattle.ir_syntax.specs.Typed.{IsWellTyped, Types, are_parts_typed, are_typed, goes_on, is_empty, is_end_typed, types_after, types_after_all, types_after_end, types_after_part, unwritten}
+use Rattle.ir_syntax.specs.Typed.{IsWellTyped, Types, are_parts_typed, are_typed, goes_on, is_empty, types_after, types_after_all, types_after_end, types_after_part, unwritten}
 use Rattle.ir_meaning.specs.Live.{kept_parts}
 use Rattle.x86_forms.specs.declared.instructions.Instr.{Instr}
 use Rattle.x86_forms.specs.Groups.{is_transfer}
@@ -30,8 +30,8 @@ use Rattle.machine_model.specs.Span.{block_at, block_from, block_up_to, block_wi
 use Rattle.machine_model.specs.LiftLines.{alone}
 use Rattle.machine_model.specs.LiftTable.{lifted}
 use Rattle.machine_model.specs.Follow.{Lifts}
-use Rattle.machine_model.specs.Faithful.{AreFaithful, block_parts, lifted_all, takes_answer}
-use Rattle.machine_model.specs.Block.{IsFaithful, IsFaithfulTo, block_of, bytes_of, front, lifted_block, trap_block}
+use Rattle.machine_model.specs.Faithful.{block_parts, lifted_all, takes_answer}
+use Rattle.machine_model.specs.Block.{IsFaithful, IsFaithfulTo, block_of, bytes_of, front, lifted_block}
 use Rattle.block_lift.specs.Liftable.{ArePlaced, CountFits, IsPlaced}
 use Rattle.block_lift.specs.Steps.{going_on, unstripped, unstripped_block}
 use Rattle.block_lift.proofs.Following.{AreRun, IsWhole, LeadsTo, WantsAt, are_faithful}

@@ -23,10 +23,10 @@ use Rattle.x86_model.specs.Want.{want_of}
 use Rattle.machine_model.specs.Placed.{Placed}
 use Rattle.machine_model.specs.LiftTable.{lifted}
 use Rattle.machine_model.specs.Follow.{Agrees, Follows, Lifts, Meets, Onward, having}
-use Rattle.machine_model.specs.Faithful.{AreFaithful, Matches, MatchesAfter, MatchesWithin, PartFollows, answer_bits, left_after, left_by, lifted_all, no_temps, state_with, takes_answer, under_way}
+use Rattle.machine_model.specs.Faithful.{AreFaithful, Matches, MatchesAfter, MatchesWithin, PartFollows, answer_bits, left_after, lifted_all, no_temps, state_with, takes_answer, under_way}
 use Rattle.machine_model.proofs.LiftWords.{same_bits}
-use Rattle.dead_flags.specs.Alike.{Agrees as Alike_states, AgreesBefore, Alike, AsksAlike}
-use Rattle.dead_flags.proofs.AlikeLemmas.{agrees_whole, strip_alike}
+use Rattle.dead_flags.specs.Alike.{AgreesBefore, AsksAlike}
+use Rattle.dead_flags.proofs.AlikeLemmas.{strip_alike}
 
 -- ---- end lines
 

@@ -1,15 +1,14 @@
 -- Lines that are typed one after another, and the types that they leave.
-use Rattle.std.proofs.Common.{◌≡◌, ℕ, ◌<◌, ◌^◌, Bool, true, false, ap, sym, subst, refl, ◌∙◌, List, [], ◌∷◌, ◌++◌, Option, Some, None}
+use Rattle.std.proofs.Common.{◌≡◌, ℕ, ◌<◌, ◌^◌, Bool, true, false, sym, subst, refl, List, [], ◌∷◌, ◌++◌, Option, Some, None}
 use Rattle.std.proofs.lemmas.Bool.{and_parts, and_from, lt-ltb, eq-eqb}
-use Rattle.std.specs.Prelude.{if◌then◌else◌, nat_lt, nat_eq, ◌&&◌, ◌||◌, ◌==◌}
+use Rattle.std.specs.Prelude.{if◌then◌else◌, nat_eq, ◌||◌, ◌==◌}
 use Rattle.ir_syntax.specs.declared.block.Part.{Part}
 use Rattle.ir_syntax.specs.declared.cond.Flag.{Flag}
 use Rattle.ir_syntax.specs.declared.line.Family.{Family}
 use Rattle.ir_syntax.specs.declared.line.Op.{Op}
-use Rattle.ir_syntax.specs.declared.line.Op.TheVariants.{Get, GetHigh, Put, PutHigh, Const}
+use Rattle.ir_syntax.specs.declared.line.Op.TheVariants.{GetHigh}
 use Rattle.ir_syntax.specs.declared.line.PartEnd.{PartEnd}
-use Rattle.ir_syntax.specs.declared.line.PartEnd.TheVariants as ends
-use Rattle.ir_syntax.specs.Typed.{Types, are_operands, are_typed, holds, is_base, is_end_typed, is_index, is_of_bits, is_temp, is_typed, goes_on, puts as family_puts, types_after, types_after_all, wrote}
+use Rattle.ir_syntax.specs.Typed.{Types, are_operands, are_typed, holds, is_base, is_end_typed, is_index, is_temp, is_typed, goes_on, puts as family_puts, types_after, types_after_all, wrote}
 use Rattle.ir_syntax.specs.Width.{bits_of}
 use Rattle.x86_forms.specs.declared.operands.Base.{Base}
 use Rattle.x86_forms.specs.declared.operands.Base.TheVariants as base
@@ -17,9 +16,8 @@ use Rattle.x86_forms.specs.declared.operands.Mem.{Mem}
 use Rattle.x86_forms.specs.declared.operands.Operand.{Operand}
 use Rattle.x86_forms.specs.declared.operands.Operand.TheVariants as operand
 use Rattle.x86_forms.specs.declared.operands.Width.{Width}
-use Rattle.x86_forms.specs.declared.operands.Width.TheVariants.{W8, W16, W32, W64}
 use Rattle.x86_forms.specs.Groups.{is_memory}
-use Rattle.x86_forms.specs.Limits.{BaseFits, IndexFits, MemFits, OperandFits, PlaceFits, is_immediate}
+use Rattle.x86_forms.specs.Limits.{BaseFits, IndexFits, MemFits, OperandFits, PlaceFits}
 use Rattle.machine_model.specs.Faithful.{takes_answer}
 use Rattle.machine_model.specs.LiftLines.{address_line, base_register, end_at, flag_lines, ir_width, part, puts, reads, zero_lines}
 use Rattle.machine_model.proofs.LiftWords.{same_bits}

@@ -1,21 +1,20 @@
 -- The parts of each instruction are typed, whatever types the temporaries had before it; there are one or two, of which
 -- the first of two takes an answer.
-use Rattle.std.proofs.Common.{◌≡◌, ℕ, ◌<◌, ◌^◌, Bool, true, false, ap, sym, subst, refl, ◌∙◌, List, [], ◌∷◌, ◌++◌, Option, Some, None}
+use Rattle.std.proofs.Common.{◌≡◌, ℕ, ◌<◌, ◌^◌, Bool, true, false, ap, sym, subst, refl, List, [], ◌∷◌, ◌++◌, Option, Some, None}
 use Rattle.std.proofs.lemmas.Bool.{and_from, lt-ltb}
-use Rattle.std.specs.Prelude.{if◌then◌else◌, nat_lt, nat_le, ◌&&◌, ◌==◌}
+use Rattle.std.specs.Prelude.{if◌then◌else◌, nat_le, ◌&&◌, ◌==◌}
 use Rattle.ir_syntax.specs.declared.block.Part.{Part}
 use Rattle.ir_syntax.specs.declared.cond.Cond.TheVariants.{E}
-use Rattle.ir_syntax.specs.declared.cond.Flag.{Flag}
 use Rattle.ir_syntax.specs.declared.line.Family.TheVariants as family
 use Rattle.ir_syntax.specs.declared.line.LockOp.{LockOp}
 use Rattle.ir_syntax.specs.declared.line.LockOp.TheVariants as lock
 use Rattle.ir_syntax.specs.declared.line.Op.{Op}
-use Rattle.ir_syntax.specs.declared.line.Op.TheVariants.{Get, Put, Const, Ea, Calc, Cond, Pick, Zext, Sext, Cut}
+use Rattle.ir_syntax.specs.declared.line.Op.TheVariants.{Get, Put, Const, Calc, Cond, Pick, Zext, Sext, Cut}
 use Rattle.ir_syntax.specs.declared.line.PartEnd.{PartEnd}
 use Rattle.ir_syntax.specs.declared.line.PartEnd.TheVariants as ends
 use Rattle.ir_syntax.specs.declared.line.Target.TheVariants.{Place, Temp}
 use Rattle.ir_syntax.specs.declared.width.Width.TheVariants as ir
-use Rattle.ir_syntax.specs.Typed.{Types, are_operands, are_typed, holds, has_result, has_width, is_end_typed, is_of_bits, is_typed, goes_on, types_after_end, types_after_part, unwritten}
+use Rattle.ir_syntax.specs.Typed.{Types, are_operands, holds, has_result, is_end_typed, is_of_bits, is_typed, goes_on, types_after_end, types_after_part, unwritten}
 use Rattle.x86_flags.specs.Shifts.{count_of}
 use Rattle.x86_forms.specs.declared.conditions.Cond.{Cond as Condition}
 use Rattle.x86_forms.specs.declared.instructions.AluOp.{AluOp}
@@ -32,14 +31,14 @@ use Rattle.x86_forms.specs.declared.operands.Operand.TheVariants as operand
 use Rattle.x86_forms.specs.declared.operands.Width.{Width}
 use Rattle.x86_forms.specs.declared.operands.Width.TheVariants.{W8, W16, W32, W64}
 use Rattle.x86_forms.specs.Groups.{is_memory, is_transfer}
-use Rattle.x86_forms.specs.Limits.{CanLock, CanLockOne, InstrFits, IsOver8, IsWide, MemFits, OperandFits, PairFits, PlaceFits, RegisterFits, ShiftFits, Widens, is_immediate}
+use Rattle.x86_forms.specs.Limits.{CanLock, CanLockOne, IsOver8, IsWide, MemFits, OperandFits, PairFits, PlaceFits, RegisterFits, ShiftFits, Widens, is_immediate}
 use Rattle.x86_forms.specs.Widths.{bits_in}
 use Rattle.x86_model.specs.Operands.{target}
 use Rattle.x86_model.specs.Registers.{half}
 use Rattle.machine_model.specs.Faithful.{takes_answer}
-use Rattle.machine_model.specs.LiftLines.{address_line, addressed, all_but_carry, all_five, alone, alu_family, end_at, flag_lines, given_at, ir_cond, ir_width, loads, lock_one_op, lock_op, one_family, one_flags, part, puts, reads, shift_family, shift_flags, zero_lines}
-use Rattle.machine_model.specs.LiftTable.{accumulator_ops, alu_lines, alu_parts, both_read, called, cmov_parts, count_line, counted_lines, imul_parts, lea_parts, lifted, locked_parts, mul_ops, one_parts, popped, product_lines, pushed, shift_parts, sign_extended_to, spread_parts, stack_at, xchg_parts, zero_extended_to}
-use Rattle.block_lift.specs.Liftable.{CountFits, IsCount, IsLiftable}
+use Rattle.machine_model.specs.LiftLines.{address_line, addressed, all_but_carry, all_five, alone, alu_family, end_at, flag_lines, given_at, ir_cond, ir_width, loads, one_family, one_flags, part, puts, reads, shift_family, shift_flags, zero_lines}
+use Rattle.machine_model.specs.LiftTable.{accumulator_ops, alu_lines, alu_parts, both_read, called, cmov_parts, count_line, counted_lines, imul_parts, lea_parts, lifted, locked_parts, mul_ops, one_parts, popped, product_lines, pushed, shift_parts, sign_extended_to, spread_parts, stack_at, xchg_parts}
+use Rattle.block_lift.specs.Liftable.{IsCount, IsLiftable}
 use Rattle.block_lift.proofs.Ready.{PutsAll, Ready, Typed, address_typed, both_ready, end_at_alone, end_at_goes_on, flags_ready, given_typed, kinds, line_ready, maybe_ready, nil_ready, num, one_ready, part_typed, puts_ready, reads_ready, same_num, zeros_ready}
 
 -- ---- instructions

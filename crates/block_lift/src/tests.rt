@@ -177,7 +177,12 @@ fn blocks_of_worked_programs(rt: HostRuntime) -> Result<(), Fail> {
 }
 
 // The number of bytes and of parts of the block at `a`, and whether it is the trap block.
-fn measure(rt: &impl Abort, alloc: Global, image: &Image, a: u64) -> Result<(usize, usize, bool), Fail> {
+fn measure(
+    rt: &impl Abort,
+    alloc: Global,
+    image: &Image,
+    a: u64,
+) -> Result<(usize, usize, bool), Fail> {
     let block = lifted(rt, alloc, image, a)?;
     let parts = block.parts.as_slice();
     let trap = matches!(parts.first(), Some(p) if p.end == PartEnd::BadCode);

@@ -1,4 +1,4 @@
-use Rattle.std.proofs.Common.{◌≡◌, ℕ, ◌++◌, List, ap, sym, subst, ◌∙◌}
+use Rattle.std.proofs.Common.{ℕ, ◌++◌, List, ap, sym, subst, ◌∙◌}
 use Rattle.x86_forms.specs.declared.instructions.Instr.{Instr}
 use Rattle.machine_model.specs.Placed.{Placed}
 use Rattle.machine_model.specs.Faithful.{lifted_all}

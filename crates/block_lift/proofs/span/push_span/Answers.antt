@@ -1,5 +1,5 @@
-use Rattle.std.proofs.Common.{◌≡◌, ℕ, suc, ◌++◌, [], List, subst, refl, Option}
-use Rattle.machine_model.specs.Span.{block_up_to, block_at}
+use Rattle.std.proofs.Common.{◌≡◌, ℕ, suc, ◌++◌, subst, refl, Option}
+use Rattle.machine_model.specs.Span.{block_up_to}
 use Rattle.machine_model.specs.Faithful.{lifted_all}
 use Rattle.machine_model.specs.Block.{bytes_of}
 use Rattle.block_lift.specs.Liftable.{ArePlaced}
