@@ -13,3 +13,5 @@ pub mod Costs
 pub mod Gates
 pub mod PlainLemmas
 pub mod PlainPlay
+pub mod Blocks
+pub mod Closures

@@ -8,4 +8,5 @@ pub mod Span
 pub mod Reach
 pub mod Gated
 pub mod Plain
+pub mod PlainGates
 pub mod First

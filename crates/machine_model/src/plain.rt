@@ -5,9 +5,11 @@ ghost use Rattle.std.specs.Prelude.{◌≡◌, ◌<◌, ◌^◌, IfErr, IfOk};
 ghost use Rattle.machine_model.specs.Plain.{FaultsIn};
 ghost use Rattle.machine_model.specs.Play.{play};
 
+mod blocks;
 mod core;
 mod entries;
 mod machine;
+mod reach;
 mod requests;
 
 use crate::case::Case;
