@@ -6,7 +6,7 @@ ghost use Rattle.machine_model.specs.Plain.{FaultsIn};
 ghost use Rattle.machine_model.specs.Play.{play};
 
 mod blocks;
-mod core;
+mod cores;
 mod entries;
 mod machine;
 mod reach;
@@ -14,7 +14,7 @@ mod requests;
 
 use crate::case::Case;
 use crate::journal::Entry;
-pub use core::PlainCore;
+pub use cores::PlainCore;
 pub use machine::{PlainFault, PlainMachine};
 use std::alloc::Global;
 

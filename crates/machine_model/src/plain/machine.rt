@@ -13,7 +13,7 @@ ghost use Rattle.machine_model.specs.Step.{cpu_at, ended, exchanged, faulted, fl
 
 use crate::case::Case;
 use crate::ending::RunEnd;
-use crate::plain::core::PlainCore;
+use crate::plain::cores::PlainCore;
 use elf_image::Image;
 use guest_map::{LayFault, lay_out};
 use lib_table::{BadKind, Library};
@@ -64,7 +64,7 @@ impl Model for PlainMachine {
     ghost use Rattle.tso_memory.specs.Tso.{TsoState};
     ghost use Rattle.tso_memory.specs.contracts.tso.Tso as tso_row;
     ghost use Rattle.machine_model.specs.contracts.ending.RunEnd as ending_row;
-    ghost use Rattle.machine_model.specs.contracts.plain.core.PlainCore as core_row;
+    ghost use Rattle.machine_model.specs.contracts.plain.cores.PlainCore as core_row;
     ghost use Rattle.machine_model.specs.declared.ending.RunEnd.{RunEnd};
     ghost use Rattle.machine_model.specs.Plain.{IsPlain};
     ghost use Rattle.machine_model.specs.State.{Core, Machine};

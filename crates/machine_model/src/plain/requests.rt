@@ -13,7 +13,7 @@ ghost use Rattle.machine_model.specs.State.{core_at, is_live, thread_numbers, wi
 ghost use Rattle.machine_model.specs.Step.{ask_of, called, exit_by, newborn, row_at, serving, with_birth};
 
 use crate::ending::RunEnd;
-use crate::plain::core::PlainCore;
+use crate::plain::cores::PlainCore;
 use crate::plain::machine::{PlainFault, PlainMachine, lives, newborn};
 use elf_image::Function;
 use lib_table::{Ask, Asked, Called, Library, Stepped, lib_step, waits};
