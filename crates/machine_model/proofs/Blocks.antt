@@ -44,7 +44,7 @@ block_full image k at done all le h =
 -- the last of a list is at its last index
 pub last_at : (xs : List Placed) → slice_get xs (length xs - 1) ≡ last_or None xs
 last_at [] = refl
-last_at (x ∷ xs) = from x xs
+last_at (x ∷ xs) = let e : length (x ∷ xs) - 1 ≡ length xs = omega arith in rw e (from x xs)
   where
     from : (x : Placed) (xs : List Placed) → slice_get (x ∷ xs) (length xs) ≡ last_or (Some x) xs
     from x [] = refl

@@ -1,7 +1,9 @@
 -- What is reached, place by place.
-use Rattle.std.proofs.Common.{◌≡◌, ℕ, zero, suc, ◌+◌, ◌-◌, ◌<◌, ◌≤◌, ◌⊎◌, inl, inr, Bool, true, false, cond, List, [], ◌∷◌, ◌++◌, refl, sym, ap, ◌∙◌, subst, arith, length, take, drop, get_or, add-one}
+use Rattle.std.proofs.Common.{◌≡◌, ℕ, zero, suc, ◌+◌, ◌-◌, ◌<◌, ◌≤◌, ◌⊎◌, inl, inr, Bool, true, false, cond, List, [], ◌∷◌, ◌++◌, refl, sym, ap, ◌∙◌, subst, arith, length, take, drop, get_or, add-one, All}
+use Rattle.std.proofs.lemmas.Map.Keys.{sorted_tail}
+use Rattle.std.proofs.lemmas.Map.Views.{All-after_first}
 use Rattle.std.specs.Prelude.{◌==◌, ◌||◌, IsTrue}
-use Rattle.std.specs.List.{list_any, AllByRecursion}
+use Rattle.std.specs.List.{list_any}
 use Rattle.std.specs.List.Sorted.{IsStrictlySortedBy}
 use Rattle.std.specs.Ordering.{nat_cmp, match_ordering}
 use Rattle.std.specs.declared.cmp.Ordering.{Ordering}
@@ -204,11 +206,11 @@ insert_all keys places i le h q = h q ∙ ap (λ x. is_among x q) (take_all i pl
 
 -- ---- two lists of the same places
 
-sorted_below : (x a : ℕ) (xs : List ℕ) → AllByRecursion (λ y. nat_cmp x y ≡ Less) xs → is_among xs a ≡ true → x < a
+sorted_below : (x a : ℕ) (xs : List ℕ) → All (λ y. nat_cmp x y ≡ Less) xs → is_among xs a ≡ true → x < a
 sorted_below x a [] all h = let none : false ≡ true = h in cc
 sorted_below x a (y ∷ xs) all h = elim (either (y == a) (is_among xs a) h) [
-  | inl e ↦ subst (λ z. x < z) (one_place y a e) (less x y all.0)
-  | inr rest ↦ sorted_below x a xs all.1 rest
+  | inl e ↦ subst (λ z. x < z) (one_place y a e) (less x y (all 0 y (omega arith)))
+  | inr rest ↦ sorted_below x a xs (λ i d lt. all (suc i) d (omega (arith, lt))) rest
 ]
   where
     less : (x y : ℕ) → nat_cmp x y ≡ Less → x < y
@@ -220,7 +222,7 @@ front_same x y xs ys p q same =
       | inl e ↦ sym (one_place y x e)
       | inr in_ys ↦ elim (either (x == y) (is_among xs y) (same y ∙ or-first _ _ (same_place y))) [
         | inl e ↦ one_place x y e
-        | inr in_xs ↦ let a = sorted_below y x ys q.0 in_ys in let b = sorted_below x y xs p.0 in_xs in absurd (omega (arith, a, b))
+        | inr in_xs ↦ let a = sorted_below y x ys (All-after_first nat_cmp y ys q) in_ys in let b = sorted_below x y xs (All-after_first nat_cmp x xs p) in_xs in absurd (omega (arith, a, b))
       ]
     ]
 
@@ -236,7 +238,7 @@ same_truth true b f g = sym (f refl)
 same_truth false true f g = g refl
 same_truth false false f g = refl
 
-rest_member : (x a : ℕ) (xs ys : List ℕ) → AllByRecursion (λ y. nat_cmp x y ≡ Less) xs → ((b : ℕ) → is_among (x ∷ xs) b ≡ is_among (x ∷ ys) b) → is_among xs a ≡ true → is_among ys a ≡ true
+rest_member : (x a : ℕ) (xs ys : List ℕ) → All (λ y. nat_cmp x y ≡ Less) xs → ((b : ℕ) → is_among (x ∷ xs) b ≡ is_among (x ∷ ys) b) → is_among xs a ≡ true → is_among ys a ≡ true
 rest_member x a xs ys above same h =
     let apart = not_itself x a (sorted_below x a xs above h) in
     let there : ((x == a) || is_among ys a) ≡ true = sym (same a) ∙ or-second (x == a) (is_among xs a) h in
@@ -248,10 +250,10 @@ same_sorted [] (y ∷ ys) p q same = let none : false ≡ true = same y ∙ or-f
 same_sorted (x ∷ xs) [] p q same = let none : true ≡ false = sym (or-first _ _ (same_place x)) ∙ same x in cc
 same_sorted (x ∷ xs) (y ∷ ys) p q same =
     let e : x ≡ y = front_same x y xs ys p q same in
-    let above : AllByRecursion (λ z. nat_cmp x z ≡ Less) ys = subst (λ w. AllByRecursion (λ z. nat_cmp w z ≡ Less) ys) (sym e) q.0 in
+    let above : All (λ z. nat_cmp x z ≡ Less) ys = subst (λ w. All (λ z. nat_cmp w z ≡ Less) ys) (sym e) (All-after_first nat_cmp y ys q) in
     let here : (a : ℕ) → is_among (x ∷ xs) a ≡ is_among (x ∷ ys) a = λ a. same a ∙ ap (λ w. is_among (w ∷ ys) a) (sym e) in
-    let rest : (a : ℕ) → is_among xs a ≡ is_among ys a = λ a. same_truth _ _ (rest_member x a xs ys p.0 here) (rest_member x a ys xs above (λ b. sym (here b))) in
-    ap (λ w. w ∷ xs) e ∙ ap (λ w. y ∷ w) (same_sorted xs ys p.1 q.1 rest)
+    let rest : (a : ℕ) → is_among xs a ≡ is_among ys a = λ a. same_truth _ _ (rest_member x a xs ys (All-after_first nat_cmp x xs p) here) (rest_member x a ys xs above (λ b. sym (here b))) in
+    ap (λ w. w ∷ xs) e ∙ ap (λ w. y ∷ w) (same_sorted xs ys (sorted_tail nat_cmp x xs p) (sorted_tail nat_cmp y ys q) rest)
 
 -- ---- one reach
 

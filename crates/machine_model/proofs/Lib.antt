@@ -15,3 +15,5 @@ pub mod PlainLemmas
 pub mod PlainPlay
 pub mod Blocks
 pub mod Closures
+pub mod GateWalk
+pub mod GatedPlain

@@ -73,7 +73,7 @@ fn block_at(alloc: Global, image: &Image, a: u64) -> Result<Vec<PlainPlaced>, Al
 
 /// The addresses of the block at a code place.
 pub(crate) fn span(alloc: Global, image: &Image, a: u64) -> Result<Vec<u64>, AllocError>
-    ensures { IfOk result (λ span. span.items ≡ span image.now a) }
+    ensures { IfOk result (λ places. places.items ≡ span image.now a) }
 {
     let block = block_at(alloc, image, a)?;
     let mut places = Vec::new(alloc);

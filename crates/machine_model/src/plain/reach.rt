@@ -82,5 +82,6 @@ pub(crate) fn reach(alloc: Global, image: &Image, root: u64) -> Result<Vec<u64>,
     ensures { IfOk result (λ places. IsReach image.now (root ∷ []) places.items) }
 {
     let places = closure(alloc, image, root)?;
-    in_order(alloc, &places)
+    let sorted = in_order(alloc, &places)?;
+    Ok(sorted)
 }
