@@ -1,8 +1,8 @@
 -- Blocks, instruction by instruction.
 use Rattle.std.proofs.Common.{◌≡◌, ℕ, zero, suc, ◌+◌, ◌-◌, ◌<◌, ◌≤◌, ◌%◌, ◌^◌, Bool, true, false, List, [], ◌∷◌, ◌++◌, Option, Some, None, refl, sym, ap, ◌∙◌, arith, length, take, get_or, add-one}
-use Rattle.std.proofs.lemmas.List.{append_assoc, append-nil, take_all}
+use Rattle.std.proofs.lemmas.List.{append_assoc, append-nil, take_all, map-append}
 use Rattle.std.proofs.lemmas.List.Elements.{filter-append}
-use Rattle.std.specs.Prelude.{slice_get, filter}
+use Rattle.std.specs.Prelude.{slice_get, filter, map}
 use Rattle.std.specs.List.{last_or}
 use Rattle.elf_image.specs.Layout.{ImageData}
 use Rattle.x86_forms.specs.declared.instructions.Instr.{Instr}
@@ -72,3 +72,20 @@ kept_out p xs done i d lt pass h =
 
 pub kept_all : (p : ℕ → Bool) (xs done : List ℕ) (i : ℕ) → length xs ≤ i → done ≡ filter p (take i xs) → done ≡ filter p xs
 kept_all p xs done i le h = h ∙ ap (filter p) (take_all i xs le)
+
+-- ---- their addresses
+
+placed_more : (xs : List Placed) (i : ℕ) (d : Placed) → i < length xs → take (suc i) xs ≡ take i xs ++ get_or xs i d ∷ []
+placed_more [] i d lt = absurd (omega arith)
+placed_more (x ∷ xs) zero d lt = refl
+placed_more (x ∷ xs) (suc i) d lt = ap (λ y. x ∷ y) (placed_more xs i d (omega arith))
+
+pub one_address : (xs : List Placed) (places : List ℕ) (i at : ℕ) (d : Placed) → i < length xs → at ≡ (get_or xs i d).at → places ≡ map (λ p. p.at) (take i xs) → places ++ at ∷ [] ≡ map (λ p. p.at) (take (i + 1) xs)
+one_address xs places i at d lt is h =
+    ap (λ x. x ++ at ∷ []) h
+    ∙ ap (λ x. map (λ p. p.at) (take i xs) ++ x ∷ []) is
+    ∙ sym (map-append (λ p. p.at) (take i xs) (get_or xs i d ∷ []))
+    ∙ ap (map (λ p. p.at)) (sym (ap (λ n. take n xs) (add-one i) ∙ placed_more xs i d lt))
+
+pub all_addresses : (xs : List Placed) (places : List ℕ) (i : ℕ) → length xs ≤ i → places ≡ map (λ p. p.at) (take i xs) → places ≡ map (λ p. p.at) xs
+all_addresses xs places i le h = h ∙ ap (map (λ p. p.at)) (take_all i xs le)

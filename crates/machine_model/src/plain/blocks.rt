@@ -1,6 +1,6 @@
 //! The blocks of an image, in lists.
 
-ghost use Rattle.std.specs.Prelude.{◌≡◌, ◌%◌, ◌^◌, ◌+◌, None, filter, IfOk, IfSome};
+ghost use Rattle.std.specs.Prelude.{◌≡◌, ◌%◌, ◌^◌, ◌+◌, None, filter, map, IfOk, IfSome};
 ghost use Rattle.std.specs.List.{last_or};
 ghost use Rattle.x86_model.specs.Operands.{target};
 ghost use Rattle.machine_model.specs.Reach.{is_among};
@@ -71,15 +71,24 @@ fn block_at(alloc: Global, image: &Image, a: u64) -> Result<Vec<PlainPlaced>, Al
     Ok(block)
 }
 
+// Where the instructions of a block stand.
+#[tactic(auto, using(crate::proofs::Blocks::one_address, crate::proofs::Blocks::all_addresses))]
+fn addresses(alloc: Global, block: &[PlainPlaced]) -> Result<Vec<u64>, AllocError>
+    ensures { IfOk result (λ places. places.items ≡ map (λ p. p.at) block.now) }
+{
+    let mut places = Vec::new(alloc);
+    for p in block {
+        places.push(p.at)?;
+    }
+    Ok(places)
+}
+
 /// The addresses of the block at a code place.
 pub(crate) fn span(alloc: Global, image: &Image, a: u64) -> Result<Vec<u64>, AllocError>
     ensures { IfOk result (λ places. places.items ≡ span image.now a) }
 {
     let block = block_at(alloc, image, a)?;
-    let mut places = Vec::new(alloc);
-    for p in &block {
-        places.push(p.at)?;
-    }
+    let places = addresses(alloc, &block)?;
     Ok(places)
 }
 
