@@ -57,9 +57,10 @@ test_from_le : (n m : ℕ) → n ≤ m → nat_le n m ≡ true
 test_from_le n m h = grind (arith, nat_tests)
 
 pub reaches_if_it_fits : (image : ImageData) (grown places : List ℕ) (g a : ℕ) (fits : Bool) → IsReach image (g ∷ []) places → is_among places a ≡ true → fits ≡ nat_le (length grown + new_places grown places) most_grown → IsTrue fits ↔ IsWithinReach image grown g a
-reaches_if_it_fits image grown places g a fits reach member is =
-    (λ h. record { places = places; reach = reach; member = member; fits = le_from_test _ _ (sym is ∙ h) },
-    λ w. is ∙ test_from_le _ _ (subst (λ x. length grown + new_places grown x ≤ most_grown) (one_reach image (g ∷ []) w.places places w.reach reach) w.fits))
+reaches_if_it_fits image grown places g a fits reach member is = (
+  λ h. record { places = places; reach = reach; member = member; fits = le_from_test _ _ (sym is ∙ h) },
+  λ w. is ∙ test_from_le _ _ (subst (λ x. length grown + new_places grown x ≤ most_grown) (one_reach image (g ∷ []) w.places places w.reach reach) w.fits),
+)
 
 pub not_reached : (image : ImageData) (grown places : List ℕ) (g a : ℕ) → IsReach image (g ∷ []) places → is_among places a ≡ false → IsTrue false ↔ IsWithinReach image grown g a
 not_reached image grown places g a reach absent =

@@ -10,12 +10,7 @@ use std::sync::Arc;
 use std::test::Fail;
 
 // Whether a journal is gated, where these places are grown before.
-fn gated(
-    alloc: Global,
-    program: &Program,
-    first: &[u64],
-    journal: &[Entry],
-) -> Result<bool, Fail> {
+fn gated(alloc: Global, program: &Program, first: &[u64], journal: &[Entry]) -> Result<bool, Fail> {
     let image = image(alloc, program)?.ok_or("the file is loaded")?;
     let mut args = Vec::new(alloc);
     args.push(String::from_str(alloc, "p")?)?;
@@ -46,7 +41,9 @@ const BIRTH: [Entry; 9] = [
     Flush(0),
     Flush(0),
 ];
+
 const FIRST: [u64; 3] = [0x40_1000, 0x40_1013, 0x40_1037];
+
 const MISS: Entry = Miss(1, 0, 0, 0x40_1100);
 
 #[test]
@@ -67,7 +64,11 @@ fn tells_gated_journals_of_two_threads(rt: HostRuntime) -> Result<(), Fail> {
         ),
         ("a second miss", &[MISS, MISS], false),
         ("growth without a miss", &[Grow(1, 0x40_1100)], false),
-        ("growth of another's miss", &[MISS, Grow(0, 0x40_1100)], false),
+        (
+            "growth of another's miss",
+            &[MISS, Grow(0, 0x40_1100)],
+            false,
+        ),
         (
             "growth outside the reach",
             &[MISS, Grow(1, 0x40_1100), Grow(1, 0x40_1200)],
@@ -105,7 +106,12 @@ fn tells_gated_journals_of_a_reach(rt: HostRuntime) -> Result<(), Fail> {
             ],
             true,
         ),
-        ("the reach before its root", &[], &[miss, Grow(0, 0x40_1014)], false),
+        (
+            "the reach before its root",
+            &[],
+            &[miss, Grow(0, 0x40_1014)],
+            false,
+        ),
         ("a miss at a grown place", &[0x40_1000], &[miss], false),
         (
             "a miss within a block",
