@@ -19,3 +19,7 @@ pub mod Costs
 pub mod Gates
 pub mod PlainLemmas
 pub mod PlainPlay
+pub mod Blocks
+pub mod Closures
+pub mod GateWalk
+pub mod GatedPlain

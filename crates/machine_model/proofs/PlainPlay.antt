@@ -17,12 +17,12 @@ unfolding play walk
 play_nothing c [] m e = ap (λ x. Some x) (sym e)
 play_nothing c (x ∷ journal) m e = ap (λ x. Some x) (sym e)
 
-next_taken : (xs : List Entry) (i : ℕ) (d : Entry) → i < length xs → take (suc i) xs ≡ take i xs ++ get_or xs i d ∷ []
+pub next_taken : (xs : List Entry) (i : ℕ) (d : Entry) → i < length xs → take (suc i) xs ≡ take i xs ++ get_or xs i d ∷ []
 next_taken [] i d lt = absurd (omega arith)
 next_taken (x ∷ xs) zero d lt = refl
 next_taken (x ∷ xs) (suc i) d lt = ap (λ y. x ∷ y) (next_taken xs i d (omega arith))
 
-split_at : (xs : List Entry) (i : ℕ) (d : Entry) → i < length xs → xs ≡ take i xs ++ get_or xs i d ∷ drop (suc i) xs
+pub split_at : (xs : List Entry) (i : ℕ) (d : Entry) → i < length xs → xs ≡ take i xs ++ get_or xs i d ∷ drop (suc i) xs
 split_at [] i d lt = absurd (omega arith)
 split_at (x ∷ xs) zero d lt = refl
 split_at (x ∷ xs) (suc i) d lt = ap (λ y. x ∷ y) (split_at xs i d (omega arith))

@@ -8,6 +8,7 @@ pub mod Span
 pub mod Reach
 pub mod Gated
 pub mod Plain
+pub mod PlainGates
 pub mod First
 pub mod LiftLines
 pub mod LiftTable

@@ -5,14 +5,19 @@ ghost use Rattle.std.specs.Prelude.{◌≡◌, ◌<◌, ◌^◌, IfErr, IfOk};
 ghost use Rattle.machine_model.specs.Plain.{FaultsIn};
 ghost use Rattle.machine_model.specs.Play.{play};
 
+mod blocks;
 mod cores;
 mod entries;
+mod gate;
+mod gated;
 mod machine;
+mod reach;
 mod requests;
 
 use crate::case::Case;
 use crate::journal::Entry;
 pub use cores::PlainCore;
+pub use gated::gated_plain;
 pub use machine::{PlainFault, PlainMachine};
 use std::alloc::Global;
 

@@ -1,5 +1,7 @@
 //! Worked runs, their journals counted by hand from the instructions, and journals that are no runs.
 
+mod gated;
+
 use crate::case::Case;
 use crate::ending::RunEnd;
 use crate::journal::{Entry, Journal};

@@ -22,7 +22,7 @@ use std::alloc::Global;
 use x86_model::{Cpu, Want, next_want};
 
 // The registers after a private step.
-fn privately(want: Want) -> Option<Cpu>
+pub(crate) fn privately(want: Want) -> Option<Cpu>
     ensures { result ≡ privately want }
 {
     match want {
@@ -48,7 +48,7 @@ fn after_private(image: &Image, k: u32, cpu: Cpu) -> Option<Cpu>
 
 // Whether the address is no door and no place of a library function.
 #[tactic(auto, unfolding(x86_model::specs::Want::door_at))]
-fn is_code_place(image: &Image, a: u64) -> bool
+pub(crate) fn is_code_place(image: &Image, a: u64) -> bool
     ensures { result ≡ is_code_place image.now a }
 {
     a != END_DOOR && a != CALL_DOOR && image.function_at(a).is_none()
