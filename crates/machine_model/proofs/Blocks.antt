@@ -7,7 +7,8 @@ use Rattle.std.specs.List.{last_or}
 use Rattle.elf_image.specs.Layout.{ImageData}
 use Rattle.x86_forms.specs.declared.instructions.Instr.{Instr}
 use Rattle.x86_forms.specs.Groups.{is_transfer}
-use Rattle.machine_model.specs.Span.{Placed, placed, block_with, block_from, block_up_to, block_at, instr_at}
+use Rattle.machine_model.specs.Span.{placed, block_with, block_from, block_up_to, block_at, instr_at}
+use Rattle.machine_model.specs.Placed.{Placed}
 
 one_left : (k : ℕ) → k < 64 → 64 - k ≡ suc (64 - (k + 1))
 one_left k h = omega arith

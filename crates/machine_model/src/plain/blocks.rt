@@ -25,7 +25,7 @@ pub(crate) struct PlainPlaced {
 
 impl Model for PlainPlaced {
     ghost use Rattle.machine_model.specs.Step.{is_code_place};
-    ghost use Rattle.machine_model.specs.Span.{Placed};
+    ghost use Rattle.machine_model.specs.Placed.{Placed};
 
     ghost Value = { Placed };
 
