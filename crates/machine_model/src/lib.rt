@@ -11,7 +11,7 @@
 //! program runs it until the whole machine takes its place. Only the case is shared.
 //!
 //! The crate stands on the definitions of `elf_image`, `x86_forms`, `x86_model`, `tso_memory`, `guest_map`,
-//! `lib_table`, `callbacks` and `miss_report`.
+//! `lib_table`, `callbacks` and `miss_report`, and on the decoder of `x86_decode`.
 #![tactic(auto)]
 
 pub mod case;

@@ -1,5 +1,5 @@
-//! A plain, slow program that plays journals: its contract is the definition. Tests alone call it, to compare the
-//! definition with worked runs; no running code does.
+//! A plain, slow program that plays journals, and tells which are gated: its contracts are the definitions. Tests alone
+//! call it, to compare the definitions with worked runs; no running code does.
 
 ghost use Rattle.std.specs.Prelude.{◌≡◌, ◌<◌, ◌^◌, IfErr, IfOk};
 ghost use Rattle.machine_model.specs.Plain.{FaultsIn};

@@ -47,7 +47,7 @@ fn roots(alloc: Global, image: &Image, root: u64) -> Result<Vec<u64>, AllocError
 }
 
 #[tactic(auto, using(crate::proofs::Closures::goes_on, crate::proofs::Closures::all_met))]
-// All that is reached from a root, as it is met.
+// All that is reached from a root, as it is met. No list is as long as the loop, so its end is never come to.
 fn closure(alloc: Global, image: &Image, root: u64) -> Result<Vec<u64>, AllocError>
     ensures { IfOk result (λ places. IsClosure image.now root places.items (length places.items)) }
 {
