@@ -5,13 +5,16 @@
 //! - in `specs`, the machine at one moment (`State`), one step for each kind of entry (`Step`), a played journal and the
 //!   entries of one thread (`Play`), the span of a code place and its direct successors (`Span`), reach (`Reach`), and
 //!   gated journals (`Gated`);
-//! - `laws`: what the definitions come to.
+//! - in `specs`, how code is lifted: the table of every instruction (`LiftTable`), parts that follow a thread (`Follow`),
+//!   the block at a code place (`Block`), and when a block is faithful (`Faithful`);
+//! - `laws`: what the definitions of the machine come to; `conversions` between the small types of lower crates; `plain`,
+//!   a slow program that computes the definitions of played and gated journals.
 //!
 //! The module `first` is a machine of its own, of two instructions and one thread, with its own entries and endings: the
 //! program runs it until the whole machine takes its place. Only the case is shared.
 //!
 //! The crate stands on the definitions of `elf_image`, `x86_forms`, `x86_model`, `tso_memory`, `guest_map`,
-//! `lib_table`, `callbacks` and `miss_report`, and on the decoder of `x86_decode`.
+//! `lib_table`, `callbacks`, `miss_report`, `ir_syntax`, `ir_meaning` and `guest_state`, and on the decoder of `x86_decode`.
 #![tactic(auto)]
 
 pub mod case;
