@@ -1,4 +1,5 @@
-// A division that goes wrong, and a jump to itself: the journal that is a run, and journals that are none.
+// A division that goes wrong, a jump to itself, and a locked step: journals that are runs, and journals that are
+// none.
 use guest_asm::{Piece, row_image};
 use machine_model::case::Case;
 use machine_model::journal::Entry::{self, Ev, Flush, Over, Tick};
@@ -15,6 +16,12 @@ const DIVIDE: [u8; 22] = [
 
 // jmp to itself
 const SPIN: [u8; 2] = [0xeb, 0xfe];
+
+// mov dword [0x402000], 1; lock inc dword [0x402000]; mfence
+const LOCKED: [u8; 22] = [
+    0xc7, 4, 0x25, 0, 0x20, 0x40, 0, 1, 0, 0, 0, 0xf0, 0xff, 4, 0x25, 0, 0x20, 0x40, 0, 0x0f, 0xae,
+    0xf0,
+];
 
 // Whether each entry is a step, from the start of the program at 0x401000.
 fn is_played(alloc: Global, code: &[u8], limit: u32, journal: &[Entry]) -> Result<bool, Fail> {
@@ -75,6 +82,32 @@ fn a_jump_to_itself(rt: HostRuntime) -> Result<(), Fail> {
     for (name, journal, is_run) in rows {
         assert!(rt;
             is_played(rt.alloc(), &SPIN, 1000, journal)? == is_run,
+            "{name}"
+        );
+    }
+    Ok(())
+}
+
+#[test]
+fn a_locked_step_and_a_fence(rt: HostRuntime) -> Result<(), Fail> {
+    let rows: [(&str, &[Entry], bool); 5] = [
+        ("the run", &[Ev(0, 0), Flush(0), Ev(0, 0), Ev(0, 1)], true),
+        (
+            "a locked step over waiting writes",
+            &[Ev(0, 0), Ev(0, 0)],
+            false,
+        ),
+        ("no second write", &[Ev(0, 0), Flush(0), Flush(0)], false),
+        (
+            "the locked step isn't private",
+            &[Ev(0, 0), Flush(0), Tick(0, 1)],
+            false,
+        ),
+        ("another thread's write", &[Ev(0, 0), Flush(1)], false),
+    ];
+    for (name, journal, is_run) in rows {
+        assert!(rt;
+            is_played(rt.alloc(), &LOCKED, 100, journal)? == is_run,
             "{name}"
         );
     }
