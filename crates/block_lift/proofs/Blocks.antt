@@ -24,14 +24,16 @@ use Rattle.x86_model.specs.declared.cpu.Cpu.{Cpu}
 use Rattle.x86_model.specs.declared.want.Door.{Door}
 use Rattle.x86_model.specs.declared.want.Want.{Want}
 use Rattle.x86_model.specs.Want.{code_from, door_at, standing, want, want_of}
-use Rattle.machine_model.specs.Placed.{Placed}
-use Rattle.machine_model.specs.Step.{is_code_place}
-use Rattle.machine_model.specs.Span.{block_at, block_from, block_up_to, block_with, instr_at, placed}
-use Rattle.machine_model.specs.LiftLines.{alone}
-use Rattle.machine_model.specs.LiftTable.{lifted}
-use Rattle.machine_model.specs.Follow.{Lifts}
-use Rattle.machine_model.specs.Faithful.{block_parts, lifted_all, takes_answer}
-use Rattle.machine_model.specs.Block.{IsFaithful, IsFaithfulTo, block_of, bytes_of, front, lifted_block}
+use Rattle.basic_blocks.specs.Placed.{Placed}
+use Rattle.basic_blocks.specs.Places.{is_code_place}
+use Rattle.basic_blocks.specs.Places.{instr_at}
+use Rattle.basic_blocks.specs.Span.{block_at, block_from, block_up_to, block_with, placed}
+use Rattle.lift_table.specs.LiftLines.{alone}
+use Rattle.lift_table.specs.LiftTable.{lifted}
+use Rattle.lift_table.specs.Follow.{Lifts}
+use Rattle.lift_table.specs.Faithful.{block_parts, lifted_all, takes_answer}
+use Rattle.basic_blocks.specs.Bytes.{bytes_of, front}
+use Rattle.lift_table.specs.Block.{IsFaithful, IsFaithfulTo, block_of, lifted_block}
 use Rattle.block_lift.specs.Liftable.{ArePlaced, CountFits, IsPlaced}
 use Rattle.block_lift.specs.Steps.{going_on, unstripped, unstripped_block}
 use Rattle.block_lift.proofs.Following.{AreRun, IsWhole, LeadsTo, WantsAt, are_faithful}
@@ -42,10 +44,6 @@ abbrev pub block_with_all : ℕ → List ℕ → List Part → Block
 block_with_all a code parts = record { at = a; code = code; parts = parts }
 
 -- ---- one instruction
-
-pub spelled_fits : (bytes : List ℕ) (r : Option (Instr × ℕ)) → SpelledFits → ((i : Instr) (n : ℕ) → n ≤ length bytes → (r ≡ Some (i, n)) ↔ Spells i (take n bytes)) → IfSome r (λ x. x.1 ≤ length bytes) → IfSome r (λ x. InstrFits x.0)
-spelled_fits bytes None fits exact within = tt
-spelled_fits bytes (Some x) fits exact within = fits x.0 (take x.1 bytes) ((exact x.0 x.1 within).0 refl)
 
 none_is : {A : Type 0} (o : Option A) → is_none o ≡ true → o ≡ None
 none_is None e = refl

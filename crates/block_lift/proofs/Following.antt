@@ -20,11 +20,11 @@ use Rattle.x86_model.specs.declared.want.BadStep.TheVariants as bad_step
 use Rattle.x86_model.specs.declared.want.Want.{Want}
 use Rattle.x86_model.specs.declared.want.Want.TheVariants as want
 use Rattle.x86_model.specs.Want.{want_of}
-use Rattle.machine_model.specs.Placed.{Placed}
-use Rattle.machine_model.specs.LiftTable.{lifted}
-use Rattle.machine_model.specs.Follow.{Agrees, Follows, Lifts, Meets, Onward, having}
-use Rattle.machine_model.specs.Faithful.{AreFaithful, Matches, MatchesAfter, MatchesWithin, PartFollows, answer_bits, left_after, lifted_all, no_temps, state_with, takes_answer, under_way}
-use Rattle.machine_model.proofs.LiftWords.{same_bits}
+use Rattle.basic_blocks.specs.Placed.{Placed}
+use Rattle.lift_table.specs.LiftTable.{lifted}
+use Rattle.lift_table.specs.Follow.{Agrees, Follows, Lifts, Meets, Onward, having}
+use Rattle.lift_table.specs.Faithful.{AreFaithful, Matches, MatchesAfter, MatchesWithin, PartFollows, answer_bits, left_after, lifted_all, no_temps, state_with, takes_answer, under_way}
+use Rattle.lift_table.proofs.LiftWords.{same_bits}
 use Rattle.dead_flags.specs.Alike.{AgreesBefore, AsksAlike}
 use Rattle.dead_flags.proofs.AlikeLemmas.{strip_alike}
 
@@ -111,15 +111,18 @@ after_matches [] a v u t to k o = (
     temps = sym k.room ∙ o.1.temps;
   },
 )
-after_matches (j ∷ js) a v u t to k o = record {
-  stands = sym o.0 ∙ to;
-  mid = o.1.mid;
-  regs = sym k.regs ∙ o.1.regs;
-  count = o.1.count;
-  each = o.1.each;
-  flags = λ f l. sym (k.flags f l) ∙ ap (λ (x : Flags). flag_in x f) o.1.flags;
-  temps = sym k.room ∙ o.1.temps;
-}
+after_matches (j ∷ js) a v u t to k o = (
+  to,
+  record {
+    stands = sym o.0 ∙ to;
+    mid = o.1.mid;
+    regs = sym k.regs ∙ o.1.regs;
+    count = o.1.count;
+    each = o.1.each;
+    flags = λ f l. sym (k.flags f l) ∙ ap (λ (x : Flags). flag_in x f) o.1.flags;
+    temps = sym k.room ∙ o.1.temps;
+  },
+)
 
 -- the thread's own registers and flags agree with it
 own_agrees : (s : Cpu) (temps : List ℕ) → s.mid ≡ None → length s.regs ≡ 16 → ((r : ℕ) → slice_index s.regs r < 2 ^ 64) → length temps ≡ 8 → Agrees None (state_with s temps) s

@@ -18,9 +18,9 @@ use Rattle.x86_forms.specs.declared.operands.Operand.TheVariants as operand
 use Rattle.x86_forms.specs.declared.operands.Width.{Width}
 use Rattle.x86_forms.specs.Groups.{is_memory}
 use Rattle.x86_forms.specs.Limits.{BaseFits, IndexFits, MemFits, OperandFits, PlaceFits}
-use Rattle.machine_model.specs.Faithful.{takes_answer}
-use Rattle.machine_model.specs.LiftLines.{address_line, base_register, end_at, flag_lines, ir_width, part, puts, reads, zero_lines}
-use Rattle.machine_model.proofs.LiftWords.{same_bits}
+use Rattle.lift_table.specs.Faithful.{takes_answer}
+use Rattle.lift_table.specs.LiftLines.{address_line, base_register, end_at, flag_lines, ir_width, part, puts, reads, zero_lines}
+use Rattle.lift_table.proofs.LiftWords.{same_bits}
 
 -- the bits of a width
 abbrev pub num : Width → ℕ

@@ -35,9 +35,9 @@ use Rattle.x86_forms.specs.Limits.{CanLock, CanLockOne, IsOver8, IsWide, MemFits
 use Rattle.x86_forms.specs.Widths.{bits_in}
 use Rattle.x86_model.specs.Operands.{target}
 use Rattle.x86_model.specs.Registers.{half}
-use Rattle.machine_model.specs.Faithful.{takes_answer}
-use Rattle.machine_model.specs.LiftLines.{address_line, addressed, all_but_carry, all_five, alone, alu_family, end_at, flag_lines, given_at, ir_cond, ir_width, loads, one_family, one_flags, part, puts, reads, shift_family, shift_flags, zero_lines}
-use Rattle.machine_model.specs.LiftTable.{accumulator_ops, alu_lines, alu_parts, both_read, called, cmov_parts, count_line, counted_lines, imul_parts, lea_parts, lifted, locked_parts, mul_ops, one_parts, popped, product_lines, pushed, shift_parts, sign_extended_to, spread_parts, stack_at, xchg_parts}
+use Rattle.lift_table.specs.Faithful.{takes_answer}
+use Rattle.lift_table.specs.LiftLines.{address_line, addressed, all_but_carry, all_five, alone, alu_family, end_at, flag_lines, given_at, ir_cond, ir_width, loads, one_family, one_flags, part, puts, reads, shift_family, shift_flags, zero_lines}
+use Rattle.lift_table.specs.LiftTable.{accumulator_ops, alu_lines, alu_parts, both_read, called, cmov_parts, count_line, counted_lines, imul_parts, lea_parts, lifted, locked_parts, mul_ops, one_parts, popped, product_lines, pushed, shift_parts, sign_extended_to, spread_parts, stack_at, xchg_parts}
 use Rattle.block_lift.specs.Liftable.{IsCount, IsLiftable}
 use Rattle.block_lift.proofs.Ready.{PutsAll, Ready, Typed, address_typed, both_ready, end_at_alone, end_at_goes_on, flags_ready, given_typed, kinds, line_ready, maybe_ready, nil_ready, num, one_ready, part_typed, puts_ready, reads_ready, same_num, zeros_ready}
 

@@ -3,7 +3,7 @@ use Rattle.std.specs.Prelude.{ℕ, ◌<◌, ◌^◌, List, [], ◌∷◌, Option
 use Rattle.x86_forms.specs.declared.instructions.Instr.{Instr}
 use Rattle.x86_forms.specs.declared.instructions.Instr.TheVariants.{Shift}
 use Rattle.x86_forms.specs.Limits.{InstrFits}
-use Rattle.machine_model.specs.Placed.{Placed}
+use Rattle.basic_blocks.specs.Placed.{Placed}
 
 -- a count that stands in an instruction is a byte
 abbrev pub IsCount : Option ℕ → Type 0

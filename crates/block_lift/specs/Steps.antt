@@ -4,11 +4,11 @@ use Rattle.elf_image.specs.Layout.{ImageData}
 use Rattle.ir_syntax.specs.declared.block.Block.{Block}
 use Rattle.ir_syntax.specs.declared.block.Part.{Part}
 use Rattle.ir_syntax.specs.declared.line.PartEnd.TheVariants.{BadCode}
-use Rattle.machine_model.specs.Placed.{Placed}
-use Rattle.machine_model.specs.Span.{block_up_to, block_at}
-use Rattle.machine_model.specs.LiftLines.{alone}
-use Rattle.machine_model.specs.Faithful.{lifted_all}
-use Rattle.machine_model.specs.Block.{bytes_of}
+use Rattle.basic_blocks.specs.Placed.{Placed}
+use Rattle.basic_blocks.specs.Span.{block_up_to, block_at}
+use Rattle.lift_table.specs.LiftLines.{alone}
+use Rattle.lift_table.specs.Faithful.{lifted_all}
+use Rattle.basic_blocks.specs.Bytes.{bytes_of}
 
 -- at most so many instructions more, from where the block goes on, if it does
 abbrev pub going_on : ImageData → ℕ → Option ℕ → List Placed

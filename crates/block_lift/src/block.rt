@@ -3,10 +3,10 @@
 ghost use Rattle.std.specs.Prelude.{◌≡◌, IfOk, OnOk, IsTrue, [], if◌then◌else◌};
 ghost use Rattle.ir_syntax.specs.Typed.{IsWellTyped, is_empty};
 ghost use Rattle.ir_syntax.specs.declared.line.PartEnd.{PartEnd};
-ghost use Rattle.machine_model.specs.LiftLines.{alone};
-ghost use Rattle.machine_model.specs.Step.{is_code_place};
-ghost use Rattle.machine_model.specs.Span.{block_at};
-ghost use Rattle.machine_model.specs.Block.{lifted_block, IsFaithful};
+ghost use Rattle.lift_table.specs.LiftLines.{alone};
+ghost use Rattle.basic_blocks.specs.Places.{is_code_place};
+ghost use Rattle.basic_blocks.specs.Span.{block_at};
+ghost use Rattle.lift_table.specs.Block.{lifted_block, IsFaithful};
 ghost use Rattle.block_lift.specs.Liftable.{ArePlaced};
 ghost use Rattle.block_lift.specs.Steps.{unstripped_block};
 

@@ -3,7 +3,7 @@
 ghost use Rattle.std.specs.Prelude.{ℕ};
 ghost use Rattle.x86_forms.specs.declared.instructions.Instr.{Instr};
 ghost use Rattle.x86_forms.specs.Limits.{InstrFits};
-ghost use Rattle.machine_model.specs.Follow.{Lifts};
+ghost use Rattle.lift_table.specs.Follow.{Lifts};
 
 use lift_alu::private_lifts;
 use lift_mem::laws::{flow_lifts, memory_lifts};

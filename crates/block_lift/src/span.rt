@@ -3,14 +3,14 @@
 ghost use Rattle.std.specs.Prelude.{◌≡◌, ◌≤◌, ◌<◌, ℕ, suc, ◌+◌, ◌%◌, ◌^◌, ◌++◌, IfOk, OnOk, Some, None, if◌then◌else◌, length, take};
 ghost use Rattle.x86_forms.specs.Groups.{is_transfer};
 ghost use Rattle.x86_model.specs.Want.{code_from};
-ghost use Rattle.machine_model.specs.LiftTable.{lifted};
-ghost use Rattle.machine_model.specs.Span.{block_up_to, block_at};
-ghost use Rattle.machine_model.specs.Faithful.{lifted_all};
-ghost use Rattle.machine_model.specs.Block.{bytes_of};
-ghost use Rattle.block_lift.specs.Liftable.{ArePlaced};
+ghost use Rattle.lift_table.specs.LiftTable.{lifted};
+ghost use Rattle.basic_blocks.specs.Span.{block_up_to, block_at};
+ghost use Rattle.lift_table.specs.Faithful.{lifted_all};
+ghost use Rattle.basic_blocks.specs.Bytes.{bytes_of};
+ghost use Rattle.block_lift.specs.Liftable.{ArePlaced, CountFits};
 ghost use Rattle.block_lift.specs.Steps.{going_on};
 
-use crate::place::{count_fits, instr_at};
+use basic_blocks::instr_at;
 use elf_image::Image;
 use ir_syntax::Part;
 use lift_alu::lift_private;
@@ -18,6 +18,22 @@ use lift_mem::{lift_flow, lift_memory};
 use std::alloc::{AllocError, Global};
 use x86_forms::{Group, Instr};
 use x86_model::code_from;
+
+// A byte is below 2^8.
+fn byte_fits(n: u8)
+    ensures { n < 2 ^ 8 }
+{
+    let _ = n;
+}
+
+// A count in an instruction is a byte.
+fn count_fits(instr: &Instr)
+    ensures { CountFits instr.now }
+{
+    if let Instr::Shift { count: Some(n), .. } = *instr {
+        byte_fits(n);
+    }
+}
 
 // The parts of an instruction, by its group.
 fn lift(alloc: Global, instr: &Instr, next: u64) -> Result<Vec<Part>, AllocError>

@@ -1,5 +1,6 @@
 // Blocks of a program that is loaded from a file; the rows are worked by hand from the lifting table.
 use super::*;
+use basic_blocks::is_code_place;
 use elf_image::{Image, load};
 use ir_syntax::{Block, Cond, Family, Flag, Op, Part, PartEnd, Seq, Target, Width};
 use std::alloc::{AllocError, Global};

@@ -1,4 +1,4 @@
--- A whole search, in which a function of the element's address answers each probe.
+-- A whole search of `bsearch`, in which a function of the element's address answers each probe.
 use Rattle.std.specs.Prelude.{◌≡◌, ◌≢◌, ℕ, zero, suc, ◌<◌, ◌≤◌, ◌⊎◌, ℤ, pos, ◌<ℤ◌}
 use Rattle.callbacks.specs.declared.Frame.{Frame}
 use Rattle.callbacks.specs.declared.Next.{Next}

@@ -6,6 +6,7 @@ use std::alloc::{AllocError, Global};
 use std::collections::HashMap;
 use std::marker::Model;
 use std::sync::Arc;
+use thiserror::Error;
 
 /// The most blocks that a book holds.
 pub const MAX_BLOCKS: usize = 65_536;
@@ -33,11 +34,13 @@ impl<B> Model for Book<B> {
 }
 
 /// Why a block was not grown.
-#[derive(Drop)]
+#[derive(Debug, Drop, Error)]
 pub enum GrowFault<B> {
     /// A block is grown at the place already; this is the block that was handed in.
+    #[error("a block is grown there already")]
     Grown(Arc<B>),
     /// The book holds `MAX_BLOCKS` blocks.
+    #[error("the graph is full")]
     Full,
 }
 

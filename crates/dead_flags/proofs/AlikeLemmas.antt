@@ -1,6 +1,7 @@
 -- A block without its dead puts asks for what the block asks for.
 use Rattle.std.proofs.Common.{◌≡◌, ℕ, zero, suc, length, drop, Bool, true, false, not, ◌&&◌, ◌||◌, ap, sym, refl, ◌∙◌, ⊎_elim, List, [], ◌∷◌}
 use Rattle.std.proofs.lemmas.Bool.{both_ways, cases_Bool, not-true}
+use Rattle.std.proofs.lemmas.List.{ext_get_or}
 use Rattle.std.specs.Prelude.{if◌then◌else◌, slice_index}
 use Rattle.guest_state.specs.declared.virtual_state.Virtual.{Virtual}
 use Rattle.ir_syntax.specs.declared.block.Part.{Part}
@@ -13,7 +14,7 @@ use Rattle.x86_flags.specs.declared.flags.Flags.{Flags}
 use Rattle.ir_meaning.specs.Does.{did, did_all, with_flag, flags_of, flag_in}
 use Rattle.ir_meaning.specs.Live.{flags_where, is_flag, op_reads, op_puts, end_reads, live_before, live_before_end, live_before_ops, live_before_parts, is_dead, kept_ops, kept_parts}
 use Rattle.ir_meaning.specs.Needs.{needed_before_end, needed_before_ops, needed_before_parts}
-use Rattle.dead_flags.specs.Alike.{Agrees, AsksAlike, Alike}
+use Rattle.dead_flags.specs.Alike.{Agrees, AsksAlike, Alike, IsSame, AsksSame, StaysSame}
 use Rattle.dead_flags.proofs.AgreeLemmas.{or_kept, flag_where, did_agrees, ended_asks, ended_agrees}
 
 -- each flag of the first set is in the second
@@ -199,3 +200,21 @@ agrees_whole live need v u regs temps flags = record {
   temps = λ t n. ap (λ (l : List ℕ). slice_index l t) temps;
   flags = flags;
 }
+
+-- where all temporaries are needed
+same_in_all : (live : Flags) (v u : Virtual) → Agrees live (λ _. true) v u → IsSame live v u
+same_in_all live v u a = record { regs = a.regs; temps = ext_get_or 0 v.temps u.temps a.room (λ k lt. a.temps k refl); flags = a.flags }
+
+part_same : (p : Part) (ps : List Part) → AsksSame p (record { ops = kept_ops p.ops (live_before_end p.end (live_before_parts ps)); end = p.end }) (kept_parts ps)
+part_same p ps =
+    let live = live_before_parts (kept_parts ps) in
+    let all : ℕ → Bool = λ _. true in
+    let lines = ops_agree p.ops (live_before_end p.end (live_before_parts ps)) (live_before_end p.end live) (needed_before_end p.end all) (end_below p.end _ _ (parts_below ps)) in
+    record {
+      request = λ v u k. ended_asks p.end live all _ _ (lines v u (agrees_whole _ _ v u k.regs k.temps k.flags));
+      again = λ v u x k. same_in_all live _ _ (ended_agrees p.end live all _ _ x (lines v u (agrees_whole _ _ v u k.regs k.temps k.flags)));
+    }
+
+pub strip_same : (ps : List Part) → StaysSame ps (kept_parts ps)
+strip_same [] = tt
+strip_same (p ∷ ps) = (part_same p ps, strip_same ps)

@@ -30,3 +30,21 @@ Alike need [] [] = Unit {0}
 Alike need [] (q ∷ qs) = ⊥
 Alike need (p ∷ ps) [] = ⊥
 Alike need (p ∷ ps) (q ∷ qs) = AsksAlike p q qs need × Alike need ps qs
+
+-- the same registers, the same temporaries, and the same live flags
+pub record IsSame (live : Flags) (v u : Virtual) : Type 0 where
+  pub regs : v.regs ≡ u.regs
+  pub temps : v.temps ≡ u.temps
+  pub flags : (flag : Flag) → flag_in live flag ≡ true → flag_in (flags_of v) flag ≡ flag_in (flags_of u) flag
+
+-- from states that are the same before the second part, both parts ask for the same, and with every answer the states are the same again
+pub record AsksSame (p q : Part) (rest : List Part) : Type 0 where
+  pub request : (v u : Virtual) → IsSame (live_before_parts (q ∷ rest)) v u → (does p v).request ≡ (does q u).request
+  pub again : (v u : Virtual) (x : ℕ) → IsSame (live_before_parts (q ∷ rest)) v u → IsSame (live_before_parts rest) (answered p.end x (does p v).state) (answered q.end x (does q u).state)
+
+-- part for part they ask the same; after the last part the states have the same registers, temporaries and five flags
+abbrev pub StaysSame : List Part → List Part → Type 0
+StaysSame [] [] = Unit {0}
+StaysSame [] (q ∷ qs) = ⊥
+StaysSame (p ∷ ps) [] = ⊥
+StaysSame (p ∷ ps) (q ∷ qs) = AsksSame p q qs × StaysSame ps qs

@@ -1,7 +1,7 @@
 ghost use Rattle.std.specs.Prelude.{◌≡◌, ◌<◌, ◌≤◌, ◌-◌, ℕ, Bool, length, drop, slice_set, slice_get, Some, if◌then◌else◌};
 ghost use Rattle.ir_meaning.specs.Live.{live_before_ops, live_before_end, live_before_part, live_before_parts, is_dead, kept_ops, kept_parts};
 ghost use Rattle.ir_syntax.specs.Typed.{IsWellTyped};
-ghost use Rattle.dead_flags.specs.Alike.{Alike};
+ghost use Rattle.dead_flags.specs.Alike.{Alike, StaysSame};
 
 use crate::live::{ALL, is_dead, live_before, live_before_end};
 use ir_syntax::{Block, Op, Part, Seq};
@@ -98,10 +98,12 @@ fn strip_parts(parts: &mut Vec<Part>, alloc: Global)
 /// From states that agree before a part in registers, in the flags that are live there in the new
 /// block and in the temporaries that it reads from there on before it writes them, the new part asks
 /// for what the old one asks for, and with every answer they agree again; after the last part in all
-/// five flags. This holds whichever temporaries are needed after the block.
+/// five flags. This holds whichever temporaries are needed after the block. Where all temporaries were
+/// equal they stay equal.
 pub fn strip(block: Block) -> Block
     ensures exact { result ≡ record block { parts = kept_parts block.parts } }
     ensures same { (needed : ℕ → Bool) → Alike needed block.parts result.parts }
+    ensures equal { StaysSame block.parts result.parts }
     ensures typed { IsWellTyped block → IsWellTyped result }
 {
     let Block { at, code, parts } = block;

@@ -10,12 +10,14 @@ use Rattle.std.proofs.lemmas.List.{get_or-map, length-map, length-replicate}
 use Rattle.std.proofs.lemmas.List.Elements.{All-map, All-weaker, All-filter, filter_passes}
 use Rattle.std.proofs.lemmas.List.Folds.{list_any_at, Any-from_list_any, fold-map}
 use Rattle.elf_image.specs.declared.header.ProgramHeader.{ProgramHeader}
+use Rattle.elf_image.specs.declared.linking.Linking.{Linking}
 use Rattle.elf_image.specs.declared.place.LibPlace.{LibPlace}
 use Rattle.elf_image.specs.Elf.{passes_end, part, program_headers, segment_headers, is_load, is_writable, is_executable, holds}
 use Rattle.elf_image.specs.Layout.{IsApart, IsSegment, IsExecutable, IsBelow, IsImage}
 use Rattle.elf_image.specs.Loading.{is_bad_load, segment_of}
-use Rattle.elf_image.specs.Sound.{IsLoadable, HasSegments}
+use Rattle.elf_image.specs.Sound.{IsLoadable, HasLoads}
 use Rattle.elf_image.proofs.Counts.{count_two}
+use Rattle.elf_image.proofs.Order.{no_header}
 
 -- a test that no element passes
 none_pass : {X : Type 0} (p : X → Bool) (xs : List X) → list_any p xs ≡ false → All (λ x. p x ≡ false) xs
@@ -26,9 +28,9 @@ none_pass p xs none k d lt = cond_false (p (get_or xs k d)) (λ yes. false≢tru
     cond_false false never = refl
 
 -- each segment's header can be loaded
-pub loadable : (bytes : List ℕ) → HasSegments bytes → All (IsLoadable bytes) (segment_headers bytes)
+pub loadable : (linking : Linking) (bytes : List ℕ) → HasLoads linking bytes → All (IsLoadable bytes) (segment_headers bytes)
 unfolding segment_headers
-loadable bytes sound k d lt =
+loadable linking bytes sound k d lt =
     let test = λ (h : ProgramHeader). is_load h && nat_lt 0 h.memsz in
     let h = get_or (segment_headers bytes) k d in
     let passes : test h ≡ true = filter_passes test (program_headers bytes) k d lt in
@@ -57,9 +59,6 @@ segment_is bytes h good = record {
   protected = good.protected;
 }
 
-no_header : ProgramHeader
-no_header = record { kind = 0; flags = 0; offset = 0; vaddr = 0; filesz = 0; memsz = 0 }
-
 -- where no address is in two segments, every two are apart
 apart_is : (bytes : List ℕ) (hs : List ProgramHeader) → ((a : ℕ) → 1 < count_by (holds a) hs → ⊥) → AllPairs IsApart (map (segment_of bytes) hs)
 apart_is bytes hs once i j d lt in_range a in_i in_j =
@@ -80,9 +79,9 @@ entry_is bytes hs a some =
     let passes = found.4 in
     (found.0, segment_of bytes h, omega (arith, found.2, length-map hs (segment_of bytes)), get_or-map (segment_of bytes) hs found.0 h (segment_of bytes h) found.2 ∙ ap (segment_of bytes) found.3, (grind (arith, nat_tests, passes), (grind (arith, nat_tests, passes), grind (arith, nat_tests, passes))))
 
-pub image_is : (bytes : List ℕ) (loads : List ProgramHeader) (entry : ℕ) (entries : List LibPlace) → loads ≡ segment_headers bytes → HasSegments bytes → list_any (λ h. is_executable h && holds entry h) loads ≡ true → AllPairs IsBelow entries → IsImage (record { entry = entry; segments = map (segment_of bytes) loads; entries = entries })
-image_is bytes loads entry entries is sound runs rising = record {
-  segments = All-map IsSegment (segment_of bytes) loads (All-weaker (IsLoadable bytes) (λ h. IsSegment (segment_of bytes h)) (λ h good. segment_is bytes h good) loads (rw is (loadable bytes sound)));
+pub image_is : (linking : Linking) (bytes : List ℕ) (loads : List ProgramHeader) (entry : ℕ) (entries : List LibPlace) → loads ≡ segment_headers bytes → HasLoads linking bytes → list_any (λ h. is_executable h && holds entry h) loads ≡ true → AllPairs IsBelow entries → IsImage (record { entry = entry; segments = map (segment_of bytes) loads; entries = entries })
+image_is linking bytes loads entry entries is sound runs rising = record {
+  segments = All-map IsSegment (segment_of bytes) loads (All-weaker (IsLoadable bytes) (λ h. IsSegment (segment_of bytes h)) (λ h good. segment_is bytes h good) loads (rw is (loadable linking bytes sound)));
   apart = apart_is bytes loads (λ a two. sound.apart (a, rw (← is) two));
   size = rw (size_is bytes loads) (elim (cases_lt 67108864 (sum_by (λ h. h.memsz) loads)) [
     | inl large ↦ absurd (sound.small (rw (← is) large))

@@ -3,5 +3,9 @@ pub mod Tables
 pub mod Counts
 pub mod Placing
 pub mod Merging
+pub mod Indexing
 pub mod Images
+pub mod Order
+pub mod Sharing
 pub mod Faults
+pub mod OneImage

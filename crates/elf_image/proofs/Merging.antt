@@ -1,17 +1,19 @@
 -- Places in order, one more at a time.
 use Rattle.std.proofs.Common.{◌≡◌, ◌≢◌, ℕ, ◌+◌, ◌-◌, ◌<◌, ◌≤◌, List, [], ◌∷◌, ◌++◌, length, get_or, take, drop, sym, refl, ap, subst, ◌∙◌, inl, inr, ⊎_elim, arith}
-use Rattle.std.specs.Prelude.{All, AllPairs, Contains, IsTrue, IfOk, MatchBool, MatchOption, Bool, true, false, ◌↔◌, Option, Some, None, Result, Ok, Err}
+use Rattle.std.specs.Prelude.{All, AllPairs, Contains, IsTrue, IfOk, MatchBool, MatchResult, Bool, true, false, ◌↔◌, Result, Ok, Err}
 use mathlib.Core.Bool.{false≢true}
 use Rattle.std.specs.List.Sorted.{IsNonDecreasingBy, IsPermutation}
 use Rattle.std.proofs.lemmas.Bool.{cases_lt}
 use Rattle.std.proofs.lemmas.List.{take_more, take-append-drop, length-take, get_or_default, get_or-take}
-use Rattle.std.proofs.lemmas.List.Elements.{Contains-get_or, Contains-append_left, Contains-push, Contains-push_cases}
+use Rattle.std.proofs.lemmas.List.Elements.{Contains-get_or, Contains-append_left, Contains-push, Contains-push_cases, All-contains}
 use Rattle.std.proofs.lemmas.List.Quantifiers.{all_pairs_push}
 use Rattle.std.proofs.lemmas.List.Sorted.{Contains-permutation, IsPermutation-sym}
+use Rattle.elf_image.specs.declared.linking.Linking.{Linking}
 use Rattle.elf_image.specs.declared.place.Function.{Function}
 use Rattle.elf_image.specs.declared.place.LibPlace.{LibPlace}
 use Rattle.elf_image.specs.Layout.{IsBelow}
-use Rattle.elf_image.specs.Loading.{AreInOrder, Clashes}
+use Rattle.elf_image.specs.Loading.{AreInOrder, Clashes, ClashesAt, IsClash, IsKept, is_kept}
+use Rattle.elf_image.specs.Sound.{IsFirstClash}
 
 -- a place is its address and its function
 same_place : (a b : LibPlace) → a.at ≡ b.at → a.function ≡ b.function → a ≡ b
@@ -35,11 +37,11 @@ module _ (es : List LibPlace) (p : LibPlace) (rising : AllPairs IsBelow es) wher
       }
 
   -- the last entry has the address, and another function
-  pub add_clash : (d : LibPlace) → 0 < length es → (get_or es (length es - 1) d).at ≡ p.at → (get_or es (length es - 1) d).function ≢ p.function → Clashes (es ++ p ∷ [])
-  add_clash d some at other = (get_or es (length es - 1) d, p, Contains-append_left es (p ∷ []) _ (Contains-get_or es (length es - 1) d (omega arith)), Contains-push es p, at, other)
+  pub add_clash : (d : LibPlace) → 0 < length es → (get_or es (length es - 1) d).at ≡ p.at → (get_or es (length es - 1) d).function ≢ p.function → ClashesAt (es ++ p ∷ []) p.at
+  add_clash d some at other = (get_or es (length es - 1) d, p, Contains-append_left es (p ∷ []) _ (Contains-get_or es (length es - 1) d (omega arith)), Contains-push es p, at, refl, other)
 
   -- by the answer of a test on the functions
-  pub add_or_clash : (d : LibPlace) (b : Bool) → 0 < length es → (get_or es (length es - 1) d).at ≡ p.at → IsTrue b ↔ ((get_or es (length es - 1) d).function ≡ p.function) → MatchBool b (AreInOrder (es ++ p ∷ []) es) (Clashes (es ++ p ∷ []))
+  pub add_or_clash : (d : LibPlace) (b : Bool) → 0 < length es → (get_or es (length es - 1) d).at ≡ p.at → IsTrue b ↔ ((get_or es (length es - 1) d).function ≡ p.function) → MatchBool b (AreInOrder (es ++ p ∷ []) es) (ClashesAt (es ++ p ∷ []) p.at)
   add_or_clash d true some at test = add_again d some at (test.0 refl)
   add_or_clash d false some at test = add_clash d some at (λ same. false≢true (test.1 same))
 
@@ -77,8 +79,8 @@ module _ (ps es : List LibPlace) (i : ℕ) (p : LibPlace) (lt : i < length ps) (
   take_contains n q h = subst (λ (xs : List LibPlace). Contains xs q) (take-append-drop n ps) (Contains-append_left (take n ps) (drop n ps) q h)
 
   -- a clash with the next place is one in the list
-  pub clash_more : Clashes (es ++ p ∷ []) → Clashes ps
-  clash_more two = (two.0, two.1, take_contains (i + 1) two.0 (in_list two.0 two.2), take_contains (i + 1) two.1 (in_list two.1 two.3), two.4, two.5)
+  pub clash_more : ClashesAt (es ++ p ∷ []) p.at → ClashesAt ps p.at
+  clash_more two = (two.0, two.1, take_contains (i + 1) two.0 (in_list two.0 two.2), take_contains (i + 1) two.1 (in_list two.1 two.3), two.4, two.5, two.6)
 
   -- no entry is above the next place, where the list is sorted
   pub none_above : IsNonDecreasingBy (λ q. q.at) ps → All (λ q. q.at ≤ p.at) es
@@ -96,11 +98,6 @@ order_permuted ps qs es moved order = record {
   rising = order.rising;
   same = λ p. (λ h. Contains-permutation qs ps p (IsPermutation-sym ps qs moved) ((order.same p).0 h), λ h. (order.same p).1 (Contains-permutation ps qs p moved h));
 }
-
-pub clash_permuted : (ps qs : List LibPlace) → IsPermutation ps qs → Clashes qs → Clashes ps
-clash_permuted ps qs moved two =
-    let back = IsPermutation-sym ps qs moved in
-    (two.0, two.1, Contains-permutation qs ps two.0 back two.2, Contains-permutation qs ps two.1 back two.3, two.4, two.5)
 
 -- where an order exists nothing clashes
 pub no_clash : (ps es : List LibPlace) → AreInOrder ps es → Clashes ps → ⊥
@@ -120,8 +117,56 @@ no_clash ps es order two =
       ]
     ]
 
+-- ---- addresses at fault
+
+module _ (linking : Linking) (ps : List LibPlace) (rising : IsNonDecreasingBy (λ q. q.at) ps) (i : ℕ) (es : List LibPlace) (lt : i < length ps) (so_far : AreInOrder (take i ps) es) (free : All (λ q. is_kept linking q.at ≡ false) (take i ps)) where
+  -- a place below the address of the next is among the first
+  below_first : (q d : LibPlace) → Contains ps q → q.at < (get_or ps i d).at → Contains (take i ps) q
+  below_first q d there below = elim (cases_lt there.0 i) [
+    | inl before ↦ (there.0, omega (arith, length-take i ps, before, lt), get_or-take i ps there.0 q before ∙ there.2)
+    | inr rest ↦ absurd (omega (arith, rising i there.0 q rest there.1, ap (λ (x : LibPlace). x.at) there.2, ap (λ (x : LibPlace). x.at) (get_or_default ps i d q lt), below))
+  ]
+
+  -- so no address below that of the next is at fault
+  pub none_below : (d : LibPlace) (b : ℕ) → IsClash linking ps b → (get_or ps i d).at ≤ b
+  none_below d b clash = elim (cases_lt b (get_or ps i d).at) [
+    | inl below ↦ absurd (at_fault below clash)
+    | inr rest ↦ rest
+  ]
+    where
+      at_fault : b < (get_or ps i d).at → IsClash linking ps b → ⊥
+      at_fault below (inl two) =
+          let one = below_first two.0 d two.2 (omega (arith, two.4, below)) in
+          let other = below_first two.1 d two.3 (omega (arith, two.5, below)) in
+          no_clash (take i ps) es so_far (two.0, two.1, one, other, two.4 ∙ sym two.5, two.6)
+      at_fault below (inr kept) =
+          let place = kept.1 in
+          let there = below_first place.0 d place.1 (omega (arith, place.2, below)) in
+          let none : is_kept linking (get_or (take i ps) there.0 place.0).at ≡ false = free there.0 place.0 there.1 in
+          let same : (get_or (take i ps) there.0 place.0).at ≡ b = ap (λ (x : LibPlace). x.at) there.2 ∙ place.2 in
+          false≢true (sym none ∙ ap (is_kept linking) same ∙ kept.0)
+
+-- a place whose address is kept
+pub kept_clash : (linking : Linking) (ps : List LibPlace) (i : ℕ) (d : LibPlace) → i < length ps → is_kept linking (get_or ps i d).at ≡ true → IsClash linking ps (get_or ps i d).at
+kept_clash linking ps i d lt kept = inr (kept, (get_or ps i d, Contains-get_or ps i d lt, refl))
+
+-- none is kept
+pub none_kept : (linking : Linking) (ps : List LibPlace) → All (λ q. is_kept linking q.at ≡ false) ps → (a : ℕ) → IsKept linking ps a → ⊥
+none_kept linking ps free a kept =
+    let place = kept.1 in
+    let none : is_kept linking place.0.at ≡ false = All-contains (λ q. is_kept linking q.at ≡ false) ps place.0 free place.1 in
+    false≢true (sym none ∙ ap (is_kept linking) place.2 ∙ kept.0)
+
+module _ (linking : Linking) (ps qs : List LibPlace) (moved : IsPermutation ps qs) where
+  kept_permuted : (a : ℕ) → IsKept linking ps a → IsKept linking qs a
+  kept_permuted a kept = let place = kept.1 in (kept.0, (place.0, Contains-permutation ps qs place.0 moved place.1, place.2))
+
+  clash_permuted : (a : ℕ) → IsClash linking ps a → IsClash linking qs a
+  clash_permuted a (inl two) = inl (two.0, two.1, Contains-permutation ps qs two.0 moved two.2, Contains-permutation ps qs two.1 moved two.3, two.4, two.5, two.6)
+  clash_permuted a (inr kept) = inr (kept_permuted a kept)
+
 -- the same of an answer
-pub permuted : {V E : Type 0} (items : V → List LibPlace) (ps qs : List LibPlace) → IsPermutation ps qs → (r : Result (Option V) E) → IfOk r (λ o. MatchOption o (Clashes qs) (λ v. AreInOrder qs (items v))) → IfOk r (λ o. MatchOption o (Clashes ps) (λ v. AreInOrder ps (items v)))
-permuted items ps qs moved (Ok None) h = clash_permuted ps qs moved h
-permuted items ps qs moved (Ok (Some v)) h = order_permuted ps qs (items v) moved h
-permuted items ps qs moved (Err e) h = h
+pub permuted : {V E : Type 0} (linking : Linking) (items : V → List LibPlace) (ps qs : List LibPlace) → IsPermutation ps qs → (r : Result (Result V ℕ) E) → IfOk r (λ o. MatchResult o (λ v. AreInOrder qs (items v) × ((a : ℕ) → ¬ IsKept linking qs a)) (IsFirstClash linking qs)) → IfOk r (λ o. MatchResult o (λ v. AreInOrder ps (items v) × ((a : ℕ) → ¬ IsKept linking ps a)) (IsFirstClash linking ps))
+permuted linking items ps qs moved (Ok (Ok v)) h = (order_permuted ps qs (items v) moved h.0, (λ a kept. h.1 a (kept_permuted linking ps qs moved a kept)))
+permuted linking items ps qs moved (Ok (Err a)) h = (clash_permuted linking qs ps (IsPermutation-sym ps qs moved) a h.0, (λ b clash. h.1 b (clash_permuted linking ps qs moved b clash)))
+permuted linking items ps qs moved (Err e) h = h

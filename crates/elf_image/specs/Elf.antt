@@ -1,11 +1,13 @@
 -- The parts of an ELF64 file, as the ELF specification lays them out. Every number is little-endian.
 use Rattle.std.specs.Prelude.{ℕ, ◌+◌, ◌*◌, ◌/◌, nat_lt, nat_le, ◌==◌, Bool, not, ◌&&◌, ◌||◌, List, length, map, filter, take, drop, find, Option, bit_and}
-use Rattle.std.specs.List.{range_with_len}
+use Rattle.std.specs.List.{range_with_len, position_or_len}
+use Rattle.std.specs.Option.{option_map}
 use Rattle.byteorder.specs.Endian.{little_number}
 use Rattle.elf_image.specs.declared.header.FileHeader.{FileHeader}
 use Rattle.elf_image.specs.declared.header.ProgramHeader.{ProgramHeader}
 use Rattle.elf_image.specs.declared.header.SectionHeader.{SectionHeader}
 use Rattle.elf_image.specs.declared.header.Symbol.{Symbol}
+use Rattle.elf_image.specs.declared.range.Range.{Range}
 
 -- the number in the n bytes at the offset
 unfoldable pub number_at : ℕ → ℕ → List ℕ → ℕ
@@ -73,9 +75,15 @@ program_headers bytes = let file = file_header bytes in table program_header fil
 unfoldable pub section_headers : List ℕ → List SectionHeader
 section_headers bytes = let file = file_header bytes in table section_header file.shoff 64 file.shnum bytes
 
--- PT_LOAD; PT_DYNAMIC or PT_INTERP
+-- PT_LOAD; PT_DYNAMIC; PT_INTERP; one of the last two
 abbrev pub is_load : ProgramHeader → Bool
 is_load h = h.kind == 1
+
+abbrev pub is_dynamic_segment : ProgramHeader → Bool
+is_dynamic_segment h = h.kind == 2
+
+abbrev pub is_interpreter : ProgramHeader → Bool
+is_interpreter h = h.kind == 3
 
 abbrev pub is_dynamic : ProgramHeader → Bool
 is_dynamic h = h.kind == 2 || h.kind == 3
@@ -95,12 +103,25 @@ abbrev pub holds : ℕ → ProgramHeader → Bool
 holds a h = nat_le h.vaddr a && nat_lt a (h.vaddr + h.memsz)
 
 -- a segment is what a PT_LOAD header loads, if that is any byte
-unfoldable pub segment_headers : List ℕ → List ProgramHeader
-segment_headers bytes = filter (λ h. is_load h && nat_lt 0 h.memsz) (program_headers bytes)
+abbrev pub is_segment : ProgramHeader → Bool
+is_segment h = is_load h && nat_lt 0 h.memsz
 
--- the first section of type SHT_SYMTAB
+unfoldable pub segment_headers : List ℕ → List ProgramHeader
+segment_headers bytes = filter is_segment (program_headers bytes)
+
+-- the range of the first dynamic segment
+unfoldable pub dynamic_range : List ℕ → Option Range
+dynamic_range bytes = option_map (λ h. record { offset = h.offset; size = h.filesz }) (find is_dynamic_segment (program_headers bytes))
+
+-- the first section of type SHT_SYMTAB, and its number
+abbrev pub is_symbol_table : SectionHeader → Bool
+is_symbol_table s = s.kind == 2
+
 unfoldable pub symbol_table : List ℕ → Option SectionHeader
-symbol_table bytes = find (λ s. s.kind == 2) (section_headers bytes)
+symbol_table bytes = find is_symbol_table (section_headers bytes)
+
+unfoldable pub symbol_table_number : List ℕ → ℕ
+symbol_table_number bytes = position_or_len is_symbol_table (section_headers bytes)
 
 -- the section of the strings to which a symbol table is linked
 unfoldable pub string_table : List ℕ → SectionHeader → SectionHeader

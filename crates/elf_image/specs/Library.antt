@@ -5,7 +5,7 @@ use Rattle.std.specs.Option.{option_map}
 use Rattle.elf_image.specs.declared.header.SectionHeader.{SectionHeader}
 use Rattle.elf_image.specs.declared.header.Symbol.{Symbol}
 use Rattle.elf_image.specs.declared.place.Function.{Function}
-use Rattle.elf_image.specs.declared.place.Function.TheVariants.{PthreadCreate, PthreadJoin, PthreadSelf, MutexInit, MutexLock, MutexTrylock, MutexUnlock, MutexDestroy, Bsearch, Read, Write, Exit}
+use Rattle.elf_image.specs.declared.place.Function.TheVariants.{PthreadCreate, PthreadJoin, PthreadSelf, MutexInit, MutexLock, MutexTrylock, MutexUnlock, MutexDestroy, Bsearch, Read, Write, Exit, CondInit, CondDestroy, CondWait, CondSignal, CondBroadcast, BarrierInit, BarrierWait, BarrierDestroy, Once}
 use Rattle.elf_image.specs.declared.place.LibPlace.{LibPlace}
 use Rattle.elf_image.specs.Elf.{part, string_table, symbol_table, symbols_of}
 
@@ -23,9 +23,18 @@ name_of Bsearch = codes "bsearch"
 name_of Read = codes "read"
 name_of Write = codes "write"
 name_of Exit = codes "exit"
+name_of CondInit = codes "pthread_cond_init"
+name_of CondDestroy = codes "pthread_cond_destroy"
+name_of CondWait = codes "pthread_cond_wait"
+name_of CondSignal = codes "pthread_cond_signal"
+name_of CondBroadcast = codes "pthread_cond_broadcast"
+name_of BarrierInit = codes "pthread_barrier_init"
+name_of BarrierWait = codes "pthread_barrier_wait"
+name_of BarrierDestroy = codes "pthread_barrier_destroy"
+name_of Once = codes "pthread_once"
 
 abbrev pub functions : List Function
-functions = PthreadCreate ∷ PthreadJoin ∷ PthreadSelf ∷ MutexInit ∷ MutexLock ∷ MutexTrylock ∷ MutexUnlock ∷ MutexDestroy ∷ Bsearch ∷ Read ∷ Write ∷ Exit ∷ []
+functions = PthreadCreate ∷ PthreadJoin ∷ PthreadSelf ∷ MutexInit ∷ MutexLock ∷ MutexTrylock ∷ MutexUnlock ∷ MutexDestroy ∷ Bsearch ∷ Read ∷ Write ∷ Exit ∷ CondInit ∷ CondDestroy ∷ CondWait ∷ CondSignal ∷ CondBroadcast ∷ BarrierInit ∷ BarrierWait ∷ BarrierDestroy ∷ Once ∷ []
 
 -- the text and a zero byte stand at the front of the bytes
 abbrev pub begins_with_name : List ℕ → List ℕ → Bool

@@ -30,6 +30,24 @@ pub enum Function {
     Write,
     /// `exit`
     Exit,
+    /// `pthread_cond_init`
+    CondInit,
+    /// `pthread_cond_destroy`
+    CondDestroy,
+    /// `pthread_cond_wait`
+    CondWait,
+    /// `pthread_cond_signal`
+    CondSignal,
+    /// `pthread_cond_broadcast`
+    CondBroadcast,
+    /// `pthread_barrier_init`
+    BarrierInit,
+    /// `pthread_barrier_wait`
+    BarrierWait,
+    /// `pthread_barrier_destroy`
+    BarrierDestroy,
+    /// `pthread_once`
+    Once,
 }
 
 /// An address at which a function of the library stands in for the program's own bytes.

@@ -4,6 +4,15 @@ ghost use Rattle.std.specs.Prelude.{◌≡◌, false};
 ghost use Rattle.elf_image.specs.Elf.{passes_end, part};
 ghost use Rattle.elf_image.specs.Loading.{is_bad_table};
 
+/// A range of the file.
+#[derive(Clone, Copy, Debug, PartialEq, Eq)]
+pub struct Range {
+    /// The offset of the first byte.
+    pub offset: u64,
+    /// How many bytes there are.
+    pub size: u64,
+}
+
 // Whether a range that isn't empty ends behind the file's end.
 pub(crate) fn passes_end(bytes: &[u8], offset: u64, size: u64) -> bool
     ensures { result ≡ passes_end offset size bytes.now }

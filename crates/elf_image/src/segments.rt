@@ -1,14 +1,16 @@
 //! The segments that the program headers of a file load.
 
-ghost use Rattle.std.specs.Prelude.{◌≡◌, ℕ, ◌+◌, ◌<◌, ◌≤◌, ◌↔◌, ◌&&◌, false, nat_lt, length, map, filter, sum_by, count_by, IsTrue, IfOk, IfErr, All};
-ghost use Rattle.std.specs.List.{list_any};
-ghost use Rattle.std.specs.List.Sorted.{IsNonDecreasingBy};
-ghost use Rattle.elf_image.specs.Elf.{file_header, program_headers, segment_headers, is_load, is_dynamic, is_readable, is_writable, is_executable, holds};
-ghost use Rattle.elf_image.specs.Loading.{is_bad_load, segment_of, FaultsAt};
-ghost use Rattle.elf_image.specs.Sound.{HasHeaders, HasSegments, IsLoadable};
+ghost use Rattle.std.specs.Prelude.{◌≡◌, ◌<◌, ◌^◌, ◌↔◌, ◌&&◌, length, map, filter, sum_by, count_by, IsTrue, IfOk, IfErr, All};
+ghost use Rattle.std.specs.List.{list_any, position};
+ghost use Rattle.elf_image.specs.Elf.{file_header, program_headers, segment_headers, is_load, is_segment, is_dynamic, is_dynamic_segment, is_interpreter, is_readable, is_writable, is_executable, holds};
+ghost use Rattle.elf_image.specs.First.{FaultsAt};
+ghost use Rattle.elf_image.specs.Loading.{is_bad_load, is_write_exec, is_unlinkable, segment_of};
+ghost use Rattle.elf_image.specs.Sound.{HasHeaders, HasLoads, IsLoadable};
 
-use crate::fault::{LoadFault, NOT_YET};
+use crate::fault::{ElfFault, LoadFault};
 use crate::header::{FileHeader, ProgramHeader, read_program_header};
+use crate::linking::Linking;
+use crate::overlap::first_overlap;
 use crate::range::{part, passes_end};
 use crate::segment::Segment;
 use std::alloc::{AllocError, Global};
@@ -37,10 +39,22 @@ impl ProgramHeader {
         self.kind == PT_LOAD
     }
 
-    fn is_dynamic(&self) -> bool
-        ensures { result ≡ is_dynamic self.now }
+    pub(crate) fn is_segment(&self) -> bool
+        ensures { result ≡ is_segment self.now }
     {
-        self.kind == PT_DYNAMIC || self.kind == PT_INTERP
+        self.is_load() && self.memsz > 0
+    }
+
+    pub(crate) fn is_dynamic_segment(&self) -> bool
+        ensures { result ≡ is_dynamic_segment self.now }
+    {
+        self.kind == PT_DYNAMIC
+    }
+
+    fn is_interpreter(&self) -> bool
+        ensures { result ≡ is_interpreter self.now }
+    {
+        self.kind == PT_INTERP
     }
 
     fn is_readable(&self) -> bool
@@ -86,7 +100,8 @@ pub(crate) fn read_program_headers(
 ) -> Result<Vec<ProgramHeader>, AllocError>
     requires header { file ≡ file_header bytes.now }
     requires whole { HasHeaders bytes.now }
-    ensures { IfOk result (λ v. v.items ≡ program_headers bytes.now) }
+    ensures same { IfOk result (λ v. v.items ≡ program_headers bytes.now) }
+    ensures few { IfOk result (λ v. length v.items < 2 ^ 16) }
 {
     let mut headers = Vec::with_capacity(alloc, file.phnum as usize)?;
     for n in 0..file.phnum as usize {
@@ -95,25 +110,54 @@ pub(crate) fn read_program_headers(
     Ok(headers)
 }
 
-// Whether the file asks for a dynamic linker.
-fn is_dynamic(headers: &[ProgramHeader]) -> bool
+// Whether a dynamic segment or an interpreter is there.
+fn has_dynamic(headers: &[ProgramHeader]) -> bool
     ensures { result ≡ list_any is_dynamic headers.now }
 {
-    headers.iter().any(|h| h.is_dynamic())
+    headers
+        .iter()
+        .any(|h| h.is_dynamic_segment() || h.is_interpreter())
 }
 
-// Whether some header can't be loaded.
-fn has_bad_load(bytes: &[u8], headers: &[ProgramHeader]) -> bool
-    ensures { result ≡ list_any (is_bad_load bytes.now) headers.now }
+fn has_interpreter(headers: &[ProgramHeader]) -> bool
+    ensures { result ≡ list_any is_interpreter headers.now }
 {
-    headers.iter().any(|h| h.is_bad_load(bytes))
+    headers.iter().any(|h| h.is_interpreter())
 }
 
-// Whether some segment can be both written and run.
-fn has_write_exec(loads: &[ProgramHeader]) -> bool
-    ensures { result ≡ list_any (λ h. is_writable h && is_executable h) loads.now }
+fn count_dynamic(headers: &[ProgramHeader]) -> usize
+    ensures { result ≡ count_by is_dynamic_segment headers.now }
 {
-    loads.iter().any(|h| h.is_writable() && h.is_executable())
+    headers.iter().filter(|h| h.is_dynamic_segment()).count()
+}
+
+// Whether the file asks for a dynamic linker in a way that isn't read.
+fn is_unlinkable(headers: &[ProgramHeader], linking: Linking) -> bool
+    ensures { result ≡ is_unlinkable linking headers.now }
+{
+    match linking {
+        Linking::Static => has_dynamic(headers),
+        Linking::Dynamic => {
+            let count = count_dynamic(headers);
+            count > 1 || (count == 0 && has_interpreter(headers))
+        }
+    }
+}
+
+// The first header that can't be loaded.
+fn first_bad_load(bytes: &[u8], headers: &[ProgramHeader]) -> Option<usize>
+    ensures { result ≡ position (is_bad_load bytes.now) headers.now }
+{
+    headers.iter().position(|h| h.is_bad_load(bytes))
+}
+
+// The first header whose segment can be both written and run.
+fn first_write_exec(headers: &[ProgramHeader]) -> Option<usize>
+    ensures { result ≡ position is_write_exec headers.now }
+{
+    headers
+        .iter()
+        .position(|h| h.is_segment() && h.is_writable() && h.is_executable())
 }
 
 // Whether the headers have more bytes in memory than segments may.
@@ -130,67 +174,43 @@ fn is_too_large(loads: &[ProgramHeader]) -> bool
     false
 }
 
-// Whether an address is in more than one of the segments, which rise by their first address.
-fn touches(sorted: &[ProgramHeader]) -> bool
-    requires rising { IsNonDecreasingBy (λ h. h.vaddr) sorted.now }
-    requires occupied { All (λ h. 0 < h.memsz) sorted.now }
-    ensures { IsTrue result ↔ ((a : ℕ) × (1 < count_by (holds a) sorted.now)) }
-{
-    for i in 1..sorted.len() {
-        let below = sorted[i - 1];
-        if sorted[i].vaddr - below.vaddr < below.memsz {
-            return true;
-        }
-    }
-    false
-}
-
-// Whether an address is in more than one of the segments.
-fn has_overlap(alloc: Global, loads: &[ProgramHeader]) -> Result<bool, AllocError>
-    requires { All (λ h. 0 < h.memsz) loads.now }
-    ensures { IfOk result (λ b. IsTrue b ↔ ((a : ℕ) × (1 < count_by (holds a) loads.now))) }
-{
-    let mut sorted = Vec::from_slice(alloc, loads)?;
-    sorted.sort_unstable_by_key(|h| h.vaddr);
-    Ok(touches(&sorted))
-}
-
 // The headers among them that load a segment.
 fn keep_segments(mut headers: Vec<ProgramHeader>) -> Vec<ProgramHeader>
-    ensures { result.items ≡ filter (λ h. is_load h && nat_lt 0 h.memsz) headers.items }
+    ensures { result.items ≡ filter is_segment headers.items }
 {
-    headers.retain(|h| h.is_load() && h.memsz > 0);
+    headers.retain(|h| h.is_segment());
     headers
 }
 
 // The headers that load a segment, in the order of their table, if each can be loaded and they can
-// be loaded together.
+// be loaded together. Else the first fault.
 pub(crate) fn segment_headers(
     alloc: Global,
     bytes: &[u8],
     file: FileHeader,
+    linking: Linking,
 ) -> Result<Vec<ProgramHeader>, LoadFault>
     requires header { file ≡ file_header bytes.now }
     requires whole { HasHeaders bytes.now }
-    ensures ok { IfOk result (λ v. (v.items ≡ segment_headers bytes.now) × HasSegments bytes.now) }
-    ensures fault { IfErr result (FaultsAt bytes.now) }
+    ensures ok { IfOk result (λ v. (v.items ≡ segment_headers bytes.now) × HasLoads linking bytes.now) }
+    ensures fault { IfErr result (FaultsAt linking bytes.now) }
 {
     let headers = read_program_headers(alloc, bytes, file)?;
-    if is_dynamic(&headers) {
-        return Err(NOT_YET);
+    if is_unlinkable(&headers, linking) {
+        return Err(LoadFault::Fault(ElfFault::Dynamic));
     }
-    if has_bad_load(bytes, &headers) {
-        return Err(NOT_YET);
+    if let Some(n) = first_bad_load(bytes, &headers) {
+        return Err(LoadFault::Fault(ElfFault::Segment(n as u32)));
+    }
+    if let Some(n) = first_write_exec(&headers) {
+        return Err(LoadFault::Fault(ElfFault::WriteExec(n as u32)));
+    }
+    if let Some((n, m)) = first_overlap(alloc, &headers)? {
+        return Err(LoadFault::Fault(ElfFault::Overlap(n, m)));
     }
     let loads = keep_segments(headers);
-    if has_write_exec(&loads) {
-        return Err(NOT_YET);
-    }
     if is_too_large(&loads) {
-        return Err(NOT_YET);
-    }
-    if has_overlap(alloc, &loads)? {
-        return Err(NOT_YET);
+        return Err(LoadFault::Fault(ElfFault::Size));
     }
     Ok(loads)
 }

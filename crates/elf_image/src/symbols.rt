@@ -1,22 +1,24 @@
 //! The symbols of a file, and the functions of the library that they place.
 
-ghost use Rattle.std.specs.Prelude.{◌≡◌, ◌<◌, ◌++◌, ◌↔◌, [], ◌∷◌, true, false, ◌+◌, ◌*◌, length, drop, IfOk, IfErr, OnOk, AllPairs, Contains, MatchOption};
+ghost use Rattle.std.specs.Prelude.{◌≡◌, ◌<◌, ◌++◌, [], ◌∷◌, true, false, ◌+◌, ◌*◌, drop, IfOk, IfErr, IfSome, OnOk, MatchOption};
 ghost use Rattle.std.specs.List.{cons_option, filter_map};
-ghost use Rattle.elf_image.specs.Elf.{file_header, section_header, passes_end, symbol_table, string_table, symbols_of};
-ghost use Rattle.elf_image.specs.Layout.{IsBelow};
+ghost use Rattle.std.specs.Option.{option_map};
+ghost use Rattle.elf_image.specs.Elf.{file_header, section_header, passes_end, symbol_table, symbol_table_number, string_table, symbols_of};
+ghost use Rattle.elf_image.specs.First.{FaultsAt};
 ghost use Rattle.elf_image.specs.Library.{name_of, function_named, is_exported, place_of, library_places};
-ghost use Rattle.elf_image.specs.Loading.{is_bad_symbol_table, is_bad_if_there, Clashes, FaultsAt};
-ghost use Rattle.elf_image.specs.Sound.{HasHeaders};
+ghost use Rattle.elf_image.specs.Loading.{is_bad_symbol_table, is_bad_if_there};
+ghost use Rattle.elf_image.specs.Sound.{HasHeaders, HasLoads};
 
-use crate::fault::{LoadFault, NOT_YET};
+use crate::fault::{ElfFault, LoadFault};
 use crate::header::{FileHeader, SectionHeader, Symbol, read_section_header, read_symbol};
+use crate::linking::Linking;
 use crate::place::{Function, LibPlace};
 use crate::range::{part, passes_end};
 use std::alloc::{AllocError, Global};
 
 const SHT_SYMTAB: u32 = 2;
 
-const FUNCTIONS: [Function; 12] = [
+const FUNCTIONS: [Function; 21] = [
     Function::PthreadCreate,
     Function::PthreadJoin,
     Function::PthreadSelf,
@@ -29,6 +31,15 @@ const FUNCTIONS: [Function; 12] = [
     Function::Read,
     Function::Write,
     Function::Exit,
+    Function::CondInit,
+    Function::CondDestroy,
+    Function::CondWait,
+    Function::CondSignal,
+    Function::CondBroadcast,
+    Function::BarrierInit,
+    Function::BarrierWait,
+    Function::BarrierDestroy,
+    Function::Once,
 ];
 
 // The function's name in C, as it stands in a table of strings.
@@ -48,6 +59,15 @@ fn symbol_name(f: Function) -> &'static [u8]
         Function::Read => b"read\0",
         Function::Write => b"write\0",
         Function::Exit => b"exit\0",
+        Function::CondInit => b"pthread_cond_init\0",
+        Function::CondDestroy => b"pthread_cond_destroy\0",
+        Function::CondWait => b"pthread_cond_wait\0",
+        Function::CondSignal => b"pthread_cond_signal\0",
+        Function::CondBroadcast => b"pthread_cond_broadcast\0",
+        Function::BarrierInit => b"pthread_barrier_init\0",
+        Function::BarrierWait => b"pthread_barrier_wait\0",
+        Function::BarrierDestroy => b"pthread_barrier_destroy\0",
+        Function::Once => b"pthread_once\0",
     }
 }
 
@@ -135,16 +155,24 @@ fn section_at(bytes: &[u8], file: FileHeader, n: usize) -> SectionHeader
     read_section_header(bytes, file.shoff as usize + 64 * n)
 }
 
+/// A section with its number.
+#[derive(Clone, Copy)]
+pub(crate) struct Numbered {
+    pub number: u16,
+    pub section: SectionHeader,
+}
+
 // The first section of symbols.
-fn symbol_table(bytes: &[u8], file: FileHeader) -> Option<SectionHeader>
+fn symbol_table(bytes: &[u8], file: FileHeader) -> Option<Numbered>
     requires header { file ≡ file_header bytes.now }
     requires whole { HasHeaders bytes.now }
-    ensures { result ≡ symbol_table bytes.now }
+    ensures table { option_map (λ t. t.section) result ≡ symbol_table bytes.now }
+    ensures number { IfSome result (λ t. t.number ≡ symbol_table_number bytes.now) }
 {
-    for n in 0..file.shnum as usize {
-        let section = section_at(bytes, file, n);
+    for number in 0..file.shnum {
+        let section = section_at(bytes, file, number as usize);
         if section.kind == SHT_SYMTAB {
-            return Some(section);
+            return Some(Numbered { number, section });
         }
     }
     None
@@ -175,20 +203,22 @@ pub(crate) fn library_places(
     alloc: Global,
     bytes: &[u8],
     file: FileHeader,
+    linking: Linking,
 ) -> Result<Vec<LibPlace>, LoadFault>
     requires header { file ≡ file_header bytes.now }
     requires whole { HasHeaders bytes.now }
+    requires loads { HasLoads linking bytes.now }
     ensures ok { IfOk result (λ v. (v.items ≡ library_places bytes.now) × (is_bad_if_there bytes.now (symbol_table bytes.now) ≡ false)) }
-    ensures fault { IfErr result (FaultsAt bytes.now) }
+    ensures fault { IfErr result (FaultsAt linking bytes.now) }
 {
-    let symbols = match symbol_table(bytes, file) {
-        Some(symbols) => symbols,
+    let table = match symbol_table(bytes, file) {
+        Some(table) => table,
         None => return Ok(Vec::new(alloc)),
     };
-    let strings = match strings_of(bytes, file, symbols) {
+    let strings = match strings_of(bytes, file, table.section) {
         Some(strings) => strings,
-        None => return Err(NOT_YET),
+        None => return Err(LoadFault::Fault(ElfFault::Symbols(table.number as u32))),
     };
     let text = part(bytes, strings.offset, strings.size);
-    Ok(places_of(alloc, bytes, symbols, text)?)
+    Ok(places_of(alloc, bytes, table.section, text)?)
 }

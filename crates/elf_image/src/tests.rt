@@ -2,6 +2,7 @@ use super::*;
 use std::alloc::{AllocError, Global};
 use std::test::*;
 
+mod dynamic;
 mod linked;
 
 /// Where a number stands in a file, the number, and how many bytes it has.
@@ -74,65 +75,166 @@ const SMALL: [Field; 43] = [
     (459, 0, 2),
 ];
 
-// A number that makes the small file faulty, and one in its place that doesn't. Each fault comes at
-// least once.
-const BREAKS: [(Field, u64); 22] = [
-    ((4, 1, 1), 2),
-    ((6, 2, 1), 1),
-    ((16, 3, 2), 2),
-    ((18, 3, 2), 62),
-    ((54, 32, 2), 56),
-    ((32, u64::MAX, 8), 64),
-    ((58, 63, 2), 64),
-    ((60, 0xffff, 2), 3),
-    ((120, 2, 4), 4),
-    ((120, 3, 4), 1),
-    ((96, 0x1001, 8), 10),
-    ((72, u64::MAX - 8, 8), 0),
-    ((136, (1 << 47) - 0xfff, 8), (1 << 47) - 0x1000),
-    ((68, 7, 4), 1),
-    ((136, 0x40_1fff, 8), 0x40_0000),
-    ((160, 0x3ff_f001, 8), 0x3ff_f000),
-    ((296, 25, 8), 24),
-    ((272, 71, 8), 48),
-    ((280, 3, 4), 2),
-    ((336, u64::MAX, 8), 0),
-    ((424, 0x40_1f00, 8), 0x40_1f01),
-    ((24, 0x40_2000, 8), 0x40_1fff),
+// A number that makes the small file faulty, the fault, and a number in its place that doesn't. Each
+// fault comes at least once, and the fields that claim most are at their greatest values.
+const BREAKS: [(Field, ElfFault, u64); 31] = [
+    ((4, 1, 1), ElfFault::NotElf64, 2),
+    ((6, 2, 1), ElfFault::NotElf64, 1),
+    ((16, 3, 2), ElfFault::Kind, 2),
+    ((18, 3, 2), ElfFault::Kind, 62),
+    ((54, 32, 2), ElfFault::Headers(0), 56),
+    ((32, u64::MAX, 8), ElfFault::Headers(0), 64),
+    ((40, u64::MAX, 8), ElfFault::Headers(1), 176),
+    ((58, 63, 2), ElfFault::Headers(1), 64),
+    ((60, 0xffff, 2), ElfFault::Headers(1), 3),
+    ((120, 2, 4), ElfFault::Dynamic, 4),
+    ((120, 3, 4), ElfFault::Dynamic, 1),
+    ((72, u64::MAX, 8), ElfFault::Segment(0), 0),
+    ((96, u64::MAX, 8), ElfFault::Segment(0), 10),
+    ((104, u64::MAX, 8), ElfFault::Segment(0), 0x1000),
+    ((96, 0x1001, 8), ElfFault::Segment(0), 10),
+    (
+        (136, (1 << 47) - 0xfff, 8),
+        ElfFault::Segment(1),
+        (1 << 47) - 0x1000,
+    ),
+    ((68, 7, 4), ElfFault::WriteExec(0), 1),
+    ((124, 7, 4), ElfFault::WriteExec(1), 4),
+    ((136, 0x40_1fff, 8), ElfFault::Overlap(0, 1), 0x40_0000),
+    ((136, 0x40_0001, 8), ElfFault::Overlap(0, 1), 0x40_0000),
+    ((160, 0x3ff_f001, 8), ElfFault::Size, 0x3ff_f000),
+    ((296, 25, 8), ElfFault::Symbols(1), 24),
+    ((272, 71, 8), ElfFault::Symbols(1), 48),
+    ((264, u64::MAX, 8), ElfFault::Symbols(1), 368),
+    ((272, u64::MAX, 8), ElfFault::Symbols(1), 48),
+    ((280, 3, 4), ElfFault::Symbols(1), 2),
+    ((280, u32::MAX as u64, 4), ElfFault::Symbols(1), 2),
+    ((336, u64::MAX, 8), ElfFault::Symbols(1), 0),
+    (
+        (424, 0x40_1f00, 8),
+        ElfFault::LibClash(0x40_1f00),
+        0x40_1f01,
+    ),
+    ((24, 0x40_2000, 8), ElfFault::Entry, 0x40_1fff),
+    ((24, 0, 8), ElfFault::Entry, 0x40_1000),
 ];
+
+fn fault_of(alloc: Global, bytes: &[u8]) -> Option<ElfFault> {
+    match load(alloc, bytes) {
+        Err(LoadFault::Fault(fault)) => Some(fault),
+        _ => None,
+    }
+}
 
 #[test]
 fn each_fault_is_refused_and_the_mended_file_accepted(rt: HostRuntime) -> Result<(), Fail> {
     let alloc = rt.alloc();
-    let mut bytes = build(alloc, 461, &SMALL)?;
-    for ((at, broken, size), mended) in BREAKS {
+    for ((at, broken, size), fault, mended) in BREAKS {
+        let mut bytes = build(alloc, 461, &SMALL)?;
         put(&mut bytes, (at, broken, size));
-        let refused = matches!(load(alloc, &bytes), Err(LoadFault::Fault(ElfFault::NotYet)));
-        assert!(rt; refused, "at {at}: {broken}");
+        assert_eq!(rt; fault_of(alloc, &bytes), Some(fault), "at {at}: {broken}");
         put(&mut bytes, (at, mended, size));
         assert!(rt; load(alloc, &bytes).is_ok(), "at {at}: {mended}");
-        bytes = build(alloc, 461, &SMALL)?;
     }
+    Ok(())
+}
+
+// Faults from the last to the first, each put into the file that has all after it.
+const ORDER: [(Field, ElfFault); 12] = [
+    ((24, 0, 8), ElfFault::Entry),
+    ((424, 0x40_1f00, 8), ElfFault::LibClash(0x40_1f00)),
+    ((296, 25, 8), ElfFault::Symbols(1)),
+    ((160, 0x3ff_f001, 8), ElfFault::Size),
+    ((136, 0x40_1fff, 8), ElfFault::Overlap(0, 1)),
+    ((68, 7, 4), ElfFault::WriteExec(0)),
+    ((96, 0x1001, 8), ElfFault::Segment(0)),
+    ((64, 2, 4), ElfFault::Dynamic),
+    ((58, 63, 2), ElfFault::Headers(1)),
+    ((54, 32, 2), ElfFault::Headers(0)),
+    ((18, 3, 2), ElfFault::Kind),
+    ((0, 0, 1), ElfFault::NotElf64),
+];
+
+#[test]
+fn the_first_fault_is_answered(rt: HostRuntime) -> Result<(), Fail> {
+    let alloc = rt.alloc();
+    let mut bytes = build(alloc, 461, &SMALL)?;
+    for (field, fault) in ORDER {
+        put(&mut bytes, field);
+        assert_eq!(rt; fault_of(alloc, &bytes), Some(fault));
+    }
+    bytes.truncate(63);
+    assert_eq!(rt; fault_of(alloc, &bytes), Some(ElfFault::Short));
     Ok(())
 }
 
 #[test]
 fn short_files_are_refused(rt: HostRuntime) -> Result<(), Fail> {
     let alloc = rt.alloc();
-    let short = build(alloc, 63, &SMALL)?;
-    assert!(rt; matches!(load(alloc, &[]), Err(LoadFault::Fault(ElfFault::NotYet))));
-    assert!(rt; matches!(load(alloc, &short), Err(LoadFault::Fault(ElfFault::NotYet))));
+    assert_eq!(rt; fault_of(alloc, &[]), Some(ElfFault::Short));
     let mut header = build(alloc, 64, &SMALL)?;
     for field in [(32, 64, 8), (40, 0, 8), (56, 1, 2), (60, 0, 2)] {
         put(&mut header, field);
     }
-    assert!(rt;
-        matches!(
-            load(alloc, &header),
-            Err(LoadFault::Fault(ElfFault::NotYet))
-        )
-    );
-    assert_eq!(rt; ElfFault::NotYet.number(), 0);
+    assert_eq!(rt; fault_of(alloc, &header), Some(ElfFault::Headers(0)));
+    Ok(())
+}
+
+// Addresses and sizes of segments in the order of their headers, and the first two that overlap.
+const OVERLAPS: [([(u64, u64); 5], (u32, u32)); 5] = [
+    (
+        [(0x10, 0x10), (0x50, 9), (0x30, 9), (0x20, 0x100), (0x18, 1)],
+        (0, 4),
+    ),
+    (
+        [(0x900, 1), (0x50, 9), (0x30, 9), (0x20, 0x100), (0x38, 1)],
+        (1, 3),
+    ),
+    (
+        [(0x900, 1), (0x50, 9), (0x30, 9), (0x38, 1), (0x30, 9)],
+        (2, 3),
+    ),
+    (
+        [(0x900, 1), (0x50, 9), (0x30, 9), (0x20, 0), (0x58, 1)],
+        (1, 4),
+    ),
+    (
+        [(0x10, 1), (0x10, 1), (0x10, 1), (0x10, 1), (0x10, 1)],
+        (0, 1),
+    ),
+];
+
+#[test]
+fn the_least_pair_overlaps(rt: HostRuntime) -> Result<(), Fail> {
+    let alloc = rt.alloc();
+    for (spans, (n, m)) in OVERLAPS {
+        let mut bytes = build(alloc, 64 + 56 * 5, &SMALL[..4])?;
+        for field in [(32, 64, 8), (54, 56, 2), (56, 5, 2)] {
+            put(&mut bytes, field);
+        }
+        let mut header: usize = 64;
+        for (at, size) in spans {
+            put(&mut bytes, (header, 0x5_0000_0001, 8));
+            put(&mut bytes, (header.saturating_add(16), at, 8));
+            put(&mut bytes, (header.saturating_add(40), size, 8));
+            header = header.saturating_add(56);
+        }
+        assert_eq!(rt; fault_of(alloc, &bytes), Some(ElfFault::Overlap(n, m)));
+    }
+    Ok(())
+}
+
+#[test]
+fn faults_are_numbered(rt: HostRuntime) -> Result<(), Fail> {
+    let mut number = 12;
+    for (_, fault) in ORDER {
+        if fault != ElfFault::Headers(0) {
+            assert_eq!(rt; fault.number(), number);
+            number -= 1;
+        }
+    }
+    assert_eq!(rt; ElfFault::Headers(0).number(), 4);
+    assert_eq!(rt; ElfFault::Short.number(), 1);
     Ok(())
 }
 
@@ -166,7 +268,24 @@ fn a_symbol_places_a_function_by_its_name_binding_and_type(rt: HostRuntime) -> R
     Ok(())
 }
 
-const PLACES: [(&[u8], u64, Function); 12] = [
+const PLACES: [(&[u8], u64, Function); 21] = [
+    (b"pthread_cond_init\0", 0x40_1e00, Function::CondInit),
+    (b"pthread_cond_destroy\0", 0x40_1e10, Function::CondDestroy),
+    (b"pthread_cond_wait\0", 0x40_1e20, Function::CondWait),
+    (b"pthread_cond_signal\0", 0x40_1e30, Function::CondSignal),
+    (
+        b"pthread_cond_broadcast\0",
+        0x40_1e40,
+        Function::CondBroadcast,
+    ),
+    (b"pthread_barrier_init\0", 0x40_1e50, Function::BarrierInit),
+    (b"pthread_barrier_wait\0", 0x40_1e60, Function::BarrierWait),
+    (
+        b"pthread_barrier_destroy\0",
+        0x40_1e70,
+        Function::BarrierDestroy,
+    ),
+    (b"pthread_once\0", 0x40_1e80, Function::Once),
     (b"exit\0", 0x40_1f00, Function::Exit),
     (b"write\0", 0x40_1f10, Function::Write),
     (b"read\0", 0x40_1f20, Function::Read),
@@ -209,8 +328,8 @@ fn row_file(alloc: Global) -> Result<Vec<u8>, AllocError> {
     for field in [
         (72, 0x1000, 8),
         (96, 0x1000, 8),
-        (272, 288, 8),
-        (328, 656, 8),
+        (272, 504, 8),
+        (328, 872, 8),
         (336, end, 8),
     ] {
         put(&mut bytes, field);
@@ -235,7 +354,7 @@ fn the_image_has_its_segments_and_its_places_in_order(rt: HostRuntime) -> Result
     assert!(rt; data.bytes.len() == 0x1000 && data.bytes.iter().all(|b| *b == 0));
     assert!(rt; image.segment_at(0x40_0fff).is_none());
     assert!(rt; image.segment_at(0x40_3000).is_none());
-    assert_eq!(rt; image.entries.len(), 12);
+    assert_eq!(rt; image.entries.len(), 21);
     for (place, (_, at, function)) in image.entries.iter().zip(PLACES.iter()) {
         assert_eq!(rt; (place.at, place.function), (*at, *function));
         assert_eq!(rt; image.function_at(*at), Some(*function));

@@ -12,9 +12,3 @@ pub mod Made
 pub mod Read
 pub mod Needed
 pub mod PushedBytes
-pub mod ElfReading
-pub mod ElfParts
-pub mod ElfSegments
-pub mod ElfSymbols
-pub mod ElfWritten
-pub mod RowImages

@@ -3,7 +3,3 @@ pub mod Pieces
 pub mod Encodable
 pub mod Choices
 pub mod Assembling
-pub mod ElfField
-pub mod ElfFile
-pub mod PageAligned
-pub mod RowImage

@@ -2,7 +2,8 @@
 use Rattle.std.proofs.Common.{◌≡◌, ℕ, suc, ◌+◌, ◌-◌, ◌*◌, ◌<◌, ◌≤◌, List, [], ◌∷◌, ◌++◌, length, map, get_or, drop, refl, sym, ap, ◌∙◌, arith, length-append}
 use Rattle.std.proofs.lemmas.List.{append_assoc, append-nil, drop_more, drop_all, length-replicate, length-map}
 use Rattle.byteorder.specs.Endian.{little_bytes}
-use Rattle.guest_map.specs.Addresses.{top, bottom, zeros}
+use Rattle.address_space.specs.Addresses.{top, bottom}
+use Rattle.guest_map.specs.Addresses.{zeros}
 use Rattle.guest_map.specs.Entry.{up16, strings, pointers, string_base, entry_rsp, entry_words, eightbytes, entry_stack}
 
 pub length-zeros : (from to : ℕ) → length (zeros from to) ≡ to - from

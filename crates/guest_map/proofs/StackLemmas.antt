@@ -4,7 +4,8 @@ use Rattle.std.specs.List.{range_with_len}
 use Rattle.std.proofs.lemmas.List.{append_assoc, append-nil}
 use Rattle.std.proofs.lemmas.List.FromFn.{map-range_with_len_more, length-map-range_with_len, get_or-map-range_with_len}
 use Rattle.tso_memory.specs.Piece.{PieceData, end_of, piece_at, no_piece}
-use Rattle.guest_map.specs.Addresses.{top, bottom, unborn_stack, unborn_stacks}
+use Rattle.address_space.specs.Addresses.{top, bottom}
+use Rattle.guest_map.specs.Addresses.{unborn_stack, unborn_stacks}
 use Rattle.guest_map.specs.Entry.{strings}
 use Rattle.guest_map.specs.Layout.{stacks}
 use Rattle.guest_map.proofs.EntryLemmas.{length-zeros, length-entry_stack}

@@ -1,7 +1,8 @@
 -- The stack as a process is entered (System V x86-64 psABI, section 3.4.1, "Initial Stack and Register State").
 use Rattle.std.specs.Prelude.{ℕ, ◌+◌, ◌-◌, ◌*◌, ◌/◌, List, [], ◌∷◌, ◌++◌, length}
 use Rattle.byteorder.specs.Endian.{little_bytes}
-use Rattle.guest_map.specs.Addresses.{top, bottom, zeros}
+use Rattle.address_space.specs.Addresses.{top, bottom}
+use Rattle.guest_map.specs.Addresses.{zeros}
 
 -- a number rounded up to a multiple of 16
 abbrev pub up16 : ℕ → ℕ

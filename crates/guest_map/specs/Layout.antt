@@ -6,12 +6,13 @@ use Rattle.tso_memory.specs.Tso as tso
 use Rattle.guest_map.specs.declared.start.Start.{Start}
 use Rattle.guest_map.specs.declared.fault.LayFault.{LayFault}
 use Rattle.guest_map.specs.declared.fault.LayFault.TheVariants.{Clash, ArgsTooLong, Memory}
-use Rattle.guest_map.specs.Addresses.{first_reserved, after_reserved, stack, unborn_stacks}
+use Rattle.address_space.specs.declared.TheConstants.{FIRST_RESERVED, AFTER_RESERVED}
+use Rattle.guest_map.specs.Addresses.{stack, unborn_stacks}
 use Rattle.guest_map.specs.Entry.{strings, entry_rsp, entry_stack}
 
 -- some of the segment's addresses is reserved
 abbrev pub meets_reserved : SegmentData → Bool
-meets_reserved s = nat_lt s.at after_reserved && nat_lt first_reserved (s.at + s.size)
+meets_reserved s = nat_lt s.at AFTER_RESERVED && nat_lt FIRST_RESERVED (s.at + s.size)
 
 -- the first segment that has a reserved address
 abbrev pub first_clash : ImageData → Option ℕ
@@ -33,7 +34,7 @@ FaultsAt image args (Memory e) = IsAccepted image args
 abbrev pub piece_of : SegmentData → PieceData
 piece_of s = record { at = s.at; r = s.r; w = s.w; bytes = s.bytes }
 
--- the stacks of the 64 threads; that of thread 0 is as the process is entered
+-- the stacks of the 64 slots; that of slot 0 is as the process is entered
 abbrev pub stacks : List (List ℕ) → List PieceData
 stacks args = stack 0 (entry_stack args) ∷ unborn_stacks 63
 

@@ -6,7 +6,8 @@ ghost use Rattle.guest_map.specs.Addresses.{stack, zeros};
 ghost use Rattle.guest_map.specs.Entry.{up16, strings, pointers, string_base, entry_rsp, entry_words, eightbytes, entry_stack};
 ghost use Rattle.guest_map.specs.Layout.{AreShort};
 
-use crate::address::{STACK_SIZE, bottom, stack, top};
+use crate::address::stack;
+use address_space::{STACK_SIZE, stack_bottom, stack_top};
 use std::alloc::{AllocError, Global};
 use tso_memory::Piece;
 
@@ -44,7 +45,7 @@ pub(crate) fn string_base(size: usize) -> u64
     requires { size ≤ 4096 }
     ensures { (args : List (List ℕ)) → size ≡ length (strings args) → result ≡ string_base args }
 {
-    top(0) - up16(size as u64)
+    stack_top(0) - up16(size as u64)
 }
 
 /// The stack pointer as a process is entered, below the strings.
@@ -130,7 +131,7 @@ pub(crate) fn first_stack(
     ensures { IfOk result (λ p. p ≡ stack 0 (entry_stack (map string_bytes args.now))) }
 {
     let mut bytes = Vec::with_capacity(alloc, STACK_SIZE as usize)?;
-    push_zeros(&mut bytes, bottom(0), rsp)?;
+    push_zeros(&mut bytes, stack_bottom(0), rsp)?;
     push_words(&mut bytes, base, args)?;
     push_zeros(
         &mut bytes,
@@ -138,6 +139,6 @@ pub(crate) fn first_stack(
         base,
     )?;
     push_strings(&mut bytes, args)?;
-    push_zeros(&mut bytes, base + size as u64, top(0))?;
+    push_zeros(&mut bytes, base + size as u64, stack_top(0))?;
     Ok(stack(0, bytes))
 }

@@ -16,6 +16,5 @@ mod start;
 #[cfg(test)]
 mod tests;
 
-pub use address::{CALL_DOOR, END_DOOR, top};
 pub use fault::LayFault;
 pub use start::{Start, lay_out};

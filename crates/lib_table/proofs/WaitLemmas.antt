@@ -1,7 +1,7 @@
 -- Which rows wait.
 use Rattle.std.proofs.Common.{◌≡◌, ℕ, Bool, true, false, cond, ◌&&◌, Option, Some, None, refl, ap, ◌∙◌, is_none, is_ok, Result, Ok, Err, rules}
 use Rattle.elf_image.specs.declared.place.Function.{Function}
-use Rattle.elf_image.specs.declared.place.Function.TheVariants.{PthreadCreate, PthreadJoin, PthreadSelf, MutexInit, MutexLock, MutexTrylock, MutexUnlock, MutexDestroy, Bsearch, Read, Write, Exit}
+use Rattle.elf_image.specs.declared.place.Function.TheVariants.{PthreadCreate, PthreadJoin, PthreadSelf, MutexInit, MutexLock, MutexTrylock, MutexUnlock, MutexDestroy, Bsearch, Read, Write, Exit, CondInit, CondDestroy, CondWait, CondSignal, CondBroadcast, BarrierInit, BarrierWait, BarrierDestroy, Once}
 use Rattle.tso_memory.specs.declared.access.Denied.{Denied}
 use Rattle.tso_memory.specs.Memory.{Memory, refusal}
 use Rattle.callbacks.specs.declared.Frame.{Frame}
@@ -15,7 +15,7 @@ use Rattle.lib_table.specs.Library.{LibraryData, is_held}
 use Rattle.lib_table.specs.Outcome.{RowResult, Waits, a1, unless_denied, unreadable, word_at}
 use Rattle.lib_table.specs.Threads.{born_if, create, end_door, ended, self_id}
 use Rattle.lib_table.specs.Mutexes.{init, lock, taken, trylock, unlock, destroy}
-use Rattle.lib_table.specs.Searches.{call_door, compared, comparison, search_for, searching}
+use Rattle.lib_table.specs.Searches.{after_routine, call_door, compared, comparison, search_for, searching}
 use Rattle.lib_table.specs.Streams.{read, write}
 use Rattle.lib_table.specs.Row.{asked_row, call_row, function_row, is_waiting, row, waits}
 
@@ -47,21 +47,30 @@ pub lock-waits : (l : LibraryData) (m : Memory) (t : ℕ) (ask : Ask) (back : �
 unfolding lock
 lock-waits l m t ask back = lock_waits (is_held l (a1 ask)) (taken l m t ask back) (taken-stays l m t ask back)
 
--- no function but join and lock waits
-pub others-stay : (f : Function) (l : LibraryData) (m : Memory) (t : ℕ) (ask : Ask) (back : ℕ) → (f ≡ PthreadJoin → ⊥) → (f ≡ MutexLock → ⊥) → is_waiting (function_row f l m t ask back) ≡ false
+-- no function but join, lock and the calls of condition variables, barriers and once waits
+pub others-stay : (f : Function) (l : LibraryData) (m : Memory) (t : ℕ) (ask : Ask) (back : ℕ) → (f ≡ PthreadJoin → ⊥) → (f ≡ MutexLock → ⊥) → (f ≡ CondInit → ⊥) → (f ≡ CondDestroy → ⊥) → (f ≡ CondWait → ⊥) → (f ≡ CondSignal → ⊥) → (f ≡ CondBroadcast → ⊥) → (f ≡ BarrierInit → ⊥) → (f ≡ BarrierWait → ⊥) → (f ≡ BarrierDestroy → ⊥) → (f ≡ Once → ⊥) → is_waiting (function_row f l m t ask back) ≡ false
 unfolding create self_id init trylock unlock destroy search_for read write
-others-stay PthreadCreate l m t ask back p q = search (stays-if, born-stays, rules)
-others-stay PthreadJoin l m t ask back p q = absurd (p refl)
-others-stay PthreadSelf l m t ask back p q = refl
-others-stay MutexInit l m t ask back p q = search (stays-if, rules)
-others-stay MutexLock l m t ask back p q = absurd (q refl)
-others-stay MutexTrylock l m t ask back p q = search (stays-if, taken-stays, rules)
-others-stay MutexUnlock l m t ask back p q = search (stays-if, rules)
-others-stay MutexDestroy l m t ask back p q = search (stays-if, rules)
-others-stay Bsearch l m t ask back p q = search (stays-if, searching-stays, rules)
-others-stay Read l m t ask back p q = search (stays-if, stays-unless, rules)
-others-stay Write l m t ask back p q = search (stays-if, stays-unless, rules)
-others-stay Exit l m t ask back p q = refl
+others-stay PthreadCreate l m t ask back p0 p1 p2 p3 p4 p5 p6 p7 p8 p9 p10 = search (stays-if, born-stays, rules)
+others-stay PthreadJoin l m t ask back p0 p1 p2 p3 p4 p5 p6 p7 p8 p9 p10 = absurd (p0 refl)
+others-stay PthreadSelf l m t ask back p0 p1 p2 p3 p4 p5 p6 p7 p8 p9 p10 = refl
+others-stay MutexInit l m t ask back p0 p1 p2 p3 p4 p5 p6 p7 p8 p9 p10 = search (stays-if, rules)
+others-stay MutexLock l m t ask back p0 p1 p2 p3 p4 p5 p6 p7 p8 p9 p10 = absurd (p1 refl)
+others-stay MutexTrylock l m t ask back p0 p1 p2 p3 p4 p5 p6 p7 p8 p9 p10 = search (stays-if, taken-stays, rules)
+others-stay MutexUnlock l m t ask back p0 p1 p2 p3 p4 p5 p6 p7 p8 p9 p10 = search (stays-if, rules)
+others-stay MutexDestroy l m t ask back p0 p1 p2 p3 p4 p5 p6 p7 p8 p9 p10 = search (stays-if, rules)
+others-stay Bsearch l m t ask back p0 p1 p2 p3 p4 p5 p6 p7 p8 p9 p10 = search (stays-if, searching-stays, rules)
+others-stay Read l m t ask back p0 p1 p2 p3 p4 p5 p6 p7 p8 p9 p10 = search (stays-if, stays-unless, rules)
+others-stay Write l m t ask back p0 p1 p2 p3 p4 p5 p6 p7 p8 p9 p10 = search (stays-if, stays-unless, rules)
+others-stay Exit l m t ask back p0 p1 p2 p3 p4 p5 p6 p7 p8 p9 p10 = refl
+others-stay CondInit l m t ask back p0 p1 p2 p3 p4 p5 p6 p7 p8 p9 p10 = absurd (p2 refl)
+others-stay CondDestroy l m t ask back p0 p1 p2 p3 p4 p5 p6 p7 p8 p9 p10 = absurd (p3 refl)
+others-stay CondWait l m t ask back p0 p1 p2 p3 p4 p5 p6 p7 p8 p9 p10 = absurd (p4 refl)
+others-stay CondSignal l m t ask back p0 p1 p2 p3 p4 p5 p6 p7 p8 p9 p10 = absurd (p5 refl)
+others-stay CondBroadcast l m t ask back p0 p1 p2 p3 p4 p5 p6 p7 p8 p9 p10 = absurd (p6 refl)
+others-stay BarrierInit l m t ask back p0 p1 p2 p3 p4 p5 p6 p7 p8 p9 p10 = absurd (p7 refl)
+others-stay BarrierWait l m t ask back p0 p1 p2 p3 p4 p5 p6 p7 p8 p9 p10 = absurd (p8 refl)
+others-stay BarrierDestroy l m t ask back p0 p1 p2 p3 p4 p5 p6 p7 p8 p9 p10 = absurd (p9 refl)
+others-stay Once l m t ask back p0 p1 p2 p3 p4 p5 p6 p7 p8 p9 p10 = absurd (p10 refl)
 
 waits_unless : (o : Option ℕ) (r : RowResult) → is_waiting (unless_denied o r) ≡ (is_waiting r && is_none o)
 waits_unless None r = elim (is_waiting r) as (λ b. b ≡ (b && true)) [ true ↦ refl | false ↦ refl ]
@@ -78,7 +87,7 @@ waits-call l m t ask f e = ap (λ (w : Asked). is_waiting (asked_row w l m t ask
 
 compared-stays : (l : LibraryData) (m : Memory) (ask : Ask) (o : Option Frame) → is_waiting (compared l m ask o) ≡ false
 compared-stays l m ask None = refl
-compared-stays l m ask (Some f) = searching-stays l m (resumed f (comparison ask)).0 (resumed f (comparison ask)).1
+compared-stays l m ask (Some f) = searching-stays (after_routine l f.control) m (resumed f (comparison ask)).0 (resumed f (comparison ask)).1
 
 ended-stays : (l : LibraryData) (m : Memory) (t : ℕ) (ask : Ask) (o : Option Frame) → is_waiting (ended l m t ask o) ≡ false
 ended-stays l m t ask None = search (stays-if, rules)

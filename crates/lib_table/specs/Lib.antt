@@ -6,5 +6,6 @@ pub mod Threads
 pub mod Mutexes
 pub mod Searches
 pub mod Streams
+pub mod Sync
 pub mod Row
 pub mod Steps

@@ -1,5 +1,5 @@
 -- What comes of a request, and the words in which the functions of the library are told.
-use Rattle.std.specs.Prelude.{ℕ, ◌+◌, ◌%◌, ◌^◌, false, slice_index, Option, Some, None}
+use Rattle.std.specs.Prelude.{ℕ, ◌+◌, ◌%◌, ◌^◌, false, List, [], ◌∷◌, slice_index, Option, Some, None}
 use Rattle.byteorder.specs.Endian.{little_bytes}
 use Rattle.tso_memory.specs.declared.access.Access.TheVariants.{Load, Store}
 use Rattle.tso_memory.specs.Memory.{Memory, byte_of, may, first_denied, number_from, put_bytes}
@@ -31,6 +31,10 @@ a4 ask = slice_index ask.args 3
 
 abbrev pub a5 : Ask → ℕ
 a5 ask = slice_index ask.args 4
+
+-- the first three of them
+abbrev pub sync_args : Ask → List ℕ
+sync_args ask = a1 ask ∷ a2 ask ∷ a3 ask ∷ []
 
 -- the lowest 32 bits, as of an argument of type int
 abbrev pub low_32 : ℕ → ℕ

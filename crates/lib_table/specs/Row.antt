@@ -1,7 +1,7 @@
 -- The library's table: what comes of each request, by the function that is called or the door that is returned to.
 use Rattle.std.specs.Prelude.{ℕ, Bool, true, false}
 use Rattle.elf_image.specs.declared.place.Function.{Function}
-use Rattle.elf_image.specs.declared.place.Function.TheVariants.{PthreadCreate, PthreadJoin, PthreadSelf, MutexInit, MutexLock, MutexTrylock, MutexUnlock, MutexDestroy, Bsearch, Read, Write, Exit}
+use Rattle.elf_image.specs.declared.place.Function.TheVariants.{PthreadCreate, PthreadJoin, PthreadSelf, MutexInit, MutexLock, MutexTrylock, MutexUnlock, MutexDestroy, Bsearch, Read, Write, Exit, CondInit, CondDestroy, CondWait, CondSignal, CondBroadcast, BarrierInit, BarrierWait, BarrierDestroy, Once}
 use Rattle.tso_memory.specs.Memory.{Memory}
 use Rattle.lib_table.specs.declared.ask.Ask.{Ask}
 use Rattle.lib_table.specs.declared.ask.Asked.{Asked}
@@ -13,6 +13,8 @@ use Rattle.lib_table.specs.Threads.{create, join, self_id, end_door}
 use Rattle.lib_table.specs.Mutexes.{init, lock, trylock, unlock, destroy}
 use Rattle.lib_table.specs.Searches.{search_for, call_door}
 use Rattle.lib_table.specs.Streams.{read, write}
+use Rattle.lib_table.specs.Sync.{sync, cond_wait, once}
+use Rattle.sync_more.specs.declared.ask.SyncName.TheVariants as name
 
 -- a function that returns to this address
 abbrev pub function_row : Function → LibraryData → Memory → ℕ → Ask → ℕ → RowResult
@@ -28,6 +30,15 @@ function_row Bsearch l m t ask back = search_for l m ask back
 function_row Read l m t ask back = read l m ask back
 function_row Write l m t ask back = write l m ask back
 function_row Exit l m t ask back = Done l m Over
+function_row CondInit l m t ask back = sync name.CondInit l m t ask back
+function_row CondDestroy l m t ask back = sync name.CondDestroy l m t ask back
+function_row CondWait l m t ask back = cond_wait l m t ask back
+function_row CondSignal l m t ask back = sync name.CondSignal l m t ask back
+function_row CondBroadcast l m t ask back = sync name.CondBroadcast l m t ask back
+function_row BarrierInit l m t ask back = sync name.BarrierInit l m t ask back
+function_row BarrierWait l m t ask back = sync name.BarrierWait l m t ask back
+function_row BarrierDestroy l m t ask back = sync name.BarrierDestroy l m t ask back
+function_row Once l m t ask back = once l m t ask back
 
 -- each function but exit first reads its return address, the eight bytes at rsp; exit ends the run
 abbrev pub call_row : Function → LibraryData → Memory → ℕ → Ask → RowResult

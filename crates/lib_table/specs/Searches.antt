@@ -1,4 +1,4 @@
--- Searches: `bsearch` of the C standard (C17, 7.22.5.1), with calls back to the guest's comparator.
+-- Calls back: `bsearch` of the C standard (C17, 7.22.5.1) with its comparator, and the return of a comparator or of the routine of POSIX pthread_once.
 use Rattle.std.specs.Prelude.{ℕ, ◌+◌, ◌-◌, ◌%◌, ◌^◌, ◌==◌, true, nat_le, if◌then◌else◌, Option, Some, None, ℤ}
 use Rattle.std.specs.Int.{w32, cast_signed}
 use Rattle.tso_memory.specs.Memory.{Memory}
@@ -9,8 +9,11 @@ use Rattle.callbacks.specs.Frame.{probing, resumed}
 use Rattle.lib_table.specs.declared.ask.Ask.{Ask}
 use Rattle.lib_table.specs.declared.answer.Called.TheVariants.{Back, Probe}
 use Rattle.lib_table.specs.declared.answer.BadKind.TheVariants.{Depth, Door}
-use Rattle.lib_table.specs.declared.limits.TheConstants.{CALL_DOOR, MAX_FRAMES}
-use Rattle.lib_table.specs.Library.{LibraryData}
+use Rattle.lib_table.specs.declared.limits.TheConstants.{MAX_FRAMES}
+use Rattle.address_space.specs.declared.TheConstants.{CALL_DOOR}
+use Rattle.lib_table.specs.Library.{LibraryData, with_rooms}
+use Rattle.sync_more.specs.declared.state.Control.TheVariants as control
+use Rattle.sync_more.specs.Once.{with_control}
 use Rattle.lib_table.specs.Outcome.{RowResult, Done, Bad, a1, a2, a3, a4, a5, low_32, answer, unless_denied, unwritable, put_word}
 
 -- where the comparator finds its return address
@@ -27,7 +30,7 @@ searching_on l m s = searching l m s.0 s.1
 
 -- a new search among all the elements
 abbrev pub new_frame : Ask → ℕ → Frame
-new_frame ask back = record { key = a1 ask; base = a2 ask; lo = 0; hi = a3 ask; size = a4 ask; compar = a5 ask; rsp = ask.rsp; back = back }
+new_frame ask back = record { key = a1 ask; base = a2 ask; lo = 0; hi = a3 ask; size = a4 ask; compar = a5 ask; rsp = ask.rsp; back = back; control = None }
 
 -- bsearch(a1, a2, a3, a4, a5): the key, the elements, how many there are, their size, and the comparator
 unfoldable pub search_for : LibraryData → Memory → Ask → ℕ → RowResult
@@ -40,9 +43,14 @@ search_for l m ask back =
 abbrev pub comparison : Ask → ℤ
 comparison ask = cast_signed w32 (low_32 ask.rax)
 
+-- the routine of a control ran
+abbrev pub after_routine : LibraryData → Option ℕ → LibraryData
+after_routine l None = l
+after_routine l (Some c) = with_rooms l (with_control l.rooms c control.Done)
+
 abbrev pub compared : LibraryData → Memory → Ask → Option Frame → RowResult
 compared l m ask None = Bad Door
-compared l m ask (Some f) = searching_on l m (resumed f (comparison ask))
+compared l m ask (Some f) = searching_on (after_routine l f.control) m (resumed f (comparison ask))
 
 -- a return to CALL_DOOR
 unfoldable pub call_door : LibraryData → Memory → Ask → RowResult

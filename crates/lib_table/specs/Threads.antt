@@ -7,22 +7,29 @@ use Rattle.lib_table.specs.declared.answer.Called.TheVariants.{Over}
 use Rattle.lib_table.specs.declared.answer.BadKind.TheVariants.{Door}
 use Rattle.lib_table.specs.declared.life.Life.{Life}
 use Rattle.lib_table.specs.declared.life.Life.TheVariants.{Unborn, Live, Ended, Joined}
-use Rattle.lib_table.specs.declared.limits.TheConstants.{END_DOOR, EAGAIN, EDEADLK, EINVAL, ESRCH}
-use Rattle.lib_table.specs.Library.{LibraryData, life_at, with_life, new_thread, id_of, stack_top}
+use Rattle.lib_table.specs.declared.limits.TheConstants.{EAGAIN, EDEADLK, EINVAL, ESRCH}
+use Rattle.address_space.specs.declared.TheConstants.{END_DOOR}
+use Rattle.address_space.specs.Addresses.{top}
+use Rattle.address_space.specs.Slots.{slot_of}
+use Rattle.lib_table.specs.Library.{LibraryData, life_at, with_life, with_joined, new_thread, id_of}
 use Rattle.lib_table.specs.Outcome.{RowResult, Done, Waits, Bad, a1, a2, a3, a4, returned, answer, unless_denied, unwritable, put_word}
+
+-- the place of a new thread's return address: the eight bytes below the top of its slot's stack
+abbrev pub first_rsp : ℕ → ℕ
+first_rsp u = top (slot_of u) - 8
 
 -- a new thread is born: its id goes to a1, and its start function returns to END_DOOR
 abbrev pub born : Memory → Ask → ℕ → ℕ × LibraryData → RowResult
 born m ask back n =
     unless_denied (unwritable m (a1 ask) 8)
-    (unless_denied (unwritable m (stack_top n.0 - 8) 8)
-    (Done n.1 (put_word (put_word m (a1 ask) (id_of n.0)) (stack_top n.0 - 8) END_DOOR) (returned ask back 0)))
+    (unless_denied (unwritable m (first_rsp n.0) 8)
+    (Done n.1 (put_word (put_word m (a1 ask) (id_of n.0)) (first_rsp n.0) END_DOOR) (returned ask back 0)))
 
 abbrev pub born_if : LibraryData → Memory → Ask → ℕ → Option (ℕ × LibraryData) → RowResult
 born_if l m ask back None = answer l m ask back EAGAIN
 born_if l m ask back (Some n) = born m ask back n
 
--- pthread_create(a1, a2, a3, a4): attributes other than null aren't valid; EAGAIN where every number was given
+-- pthread_create(a1, a2, a3, a4): attributes other than null aren't valid; EAGAIN where every slot has a live or ended thread
 unfoldable pub create : LibraryData → Memory → Ask → ℕ → RowResult
 create l m ask back =
     if not (a2 ask == 0) then answer l m ask back EINVAL
@@ -32,8 +39,8 @@ create l m ask back =
 abbrev pub joined : LibraryData → Memory → Ask → ℕ → ℕ → ℕ → RowResult
 joined l m ask back u value =
     if not (a2 ask == 0)
-    then unless_denied (unwritable m (a2 ask) 8) (Done (with_life l u Joined) (put_word m (a2 ask) value) (returned ask back 0))
-    else Done (with_life l u Joined) m (returned ask back 0)
+    then unless_denied (unwritable m (a2 ask) 8) (Done (with_joined l u) (put_word m (a2 ask) value) (returned ask back 0))
+    else Done (with_joined l u) m (returned ask back 0)
 
 -- thread t joins thread u, whose life is this
 abbrev pub joining : LibraryData → Memory → ℕ → Ask → ℕ → ℕ → Life → RowResult

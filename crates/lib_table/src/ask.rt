@@ -2,7 +2,7 @@
 
 ghost use Rattle.std.specs.Prelude.{◌≡◌};
 ghost use Rattle.lib_table.specs.declared.answer.Stepped.TheVariants as stepped;
-ghost use Rattle.lib_table.specs.Outcome.{low_32, returned};
+ghost use Rattle.lib_table.specs.Outcome.{low_32, returned, sync_args};
 
 use crate::answer::{Called, Stepped};
 use callbacks::Frame;
@@ -15,7 +15,7 @@ pub enum Asked {
     Lib(Function),
     /// A thread's start function returned.
     EndDoor,
-    /// A comparator that `bsearch` called returned.
+    /// A comparator that `bsearch` called, or a routine that `pthread_once` called, returned.
     CallDoor,
 }
 
@@ -27,7 +27,7 @@ pub struct Ask {
     pub args: [u64; 5],
     pub rsp: u64,
     pub rax: u64,
-    /// How many searches of `bsearch` the thread has under way.
+    /// How many calls of `bsearch` and `pthread_once` the thread has under way.
     pub depth: u32,
     /// The innermost of them.
     pub top: Option<Frame>,
@@ -44,6 +44,14 @@ impl Ask {
             rip: back,
             popped: false,
         })
+    }
+
+    /// The first three arguments.
+    pub(crate) fn sync_args(&self) -> [u64; 3]
+        ensures { result ≡ sync_args self.now }
+    {
+        let [a1, a2, a3, _, _] = self.args;
+        [a1, a2, a3]
     }
 }
 

@@ -3,12 +3,17 @@
 //!
 //! [`lib_step`] carries out one request of a thread: it reads and writes the guest's memory itself, past the store
 //! buffers, and changes the [`Library`]. Its contract cites `row` (`specs/Row.antt`), which tells each function by
-//! cases in a definition of its own: threads in `specs/Threads.antt`, mutexes in `specs/Mutexes.antt`, `bsearch` in
-//! `specs/Searches.antt`, `read` and `write` in `specs/Streams.antt`, over the data of `specs/Library.antt`. [`waits`]
-//! says beforehand whether a request has to wait. docs/LIBRARY.md has the table in plain words.
+//! cases in a definition of its own: threads in `specs/Threads.antt`, mutexes in `specs/Mutexes.antt`, condition
+//! variables, barriers and once in `specs/Sync.antt`, `bsearch` in `specs/Searches.antt`, `read` and `write` in
+//! `specs/Streams.antt`, over the data of `specs/Library.antt`. [`waits`] says beforehand whether a request has to wait.
+//! docs/LIBRARY.md has the table in plain words.
 //!
-//! The crate stands on `elf_image` for the functions' names, `tso_memory` for the memory and `callbacks` for the
-//! searches. The machine's definitions stand on it.
+//! Threads live in 64 slots. A thread's number tells its slot and how many came before it there, so a joined thread's
+//! slot goes to a later one with a number of its own.
+//!
+//! The crate stands on `elf_image` for the functions' names, `tso_memory` for the memory, `callbacks` for the calls back
+//! into the guest, `sync_more` for who waits where, and `address_space` for slots, stacks and doors. The machine's
+//! definitions stand on it.
 #![tactic(auto)]
 
 mod answer;
@@ -19,19 +24,23 @@ mod life;
 mod limits;
 mod mutexes;
 mod searches;
+mod slot;
 mod step;
 mod streams;
+mod sync;
 #[cfg(test)]
 mod tests;
 mod threads;
 mod words;
 
+pub use address_space::{CALL_DOOR, END_DOOR};
 pub use answer::{BadKind, Called, Stepped};
 pub use ask::{Ask, Asked};
 pub use library::Library;
 pub use life::Life;
 pub use limits::{
-    CALL_DOOR, EAGAIN, EBUSY, EDEADLK, EINVAL, END_DOOR, EPERM, ESRCH, FAILED, MAX_BYTES,
-    MAX_FRAMES, MAX_HELD, MAX_OUTPUT, THREADS,
+    EAGAIN, EBUSY, EDEADLK, EINVAL, EPERM, ESRCH, FAILED, MAX_BYTES, MAX_FRAMES, MAX_HELD,
+    MAX_OUTPUT,
 };
+pub use slot::{Birth, Slot};
 pub use step::{lib_step, waits};

@@ -16,11 +16,17 @@ pub enum Life {
 }
 
 impl Life {
-    ghost use Rattle.lib_table.specs.Library.{is_unborn};
+    ghost use Rattle.lib_table.specs.Library.{is_running, is_unborn};
 
     pub(crate) fn is_unborn(&self) -> bool
         ensures { result ≡ is_unborn self.now }
     {
         matches!(self, Life::Unborn)
+    }
+
+    pub(crate) fn is_running(&self) -> bool
+        ensures { result ≡ is_running self.now }
+    {
+        matches!(self, Life::Live { .. })
     }
 }

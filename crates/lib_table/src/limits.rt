@@ -1,12 +1,9 @@
-//! The library's limits, addresses and numbers.
-
-/// How many threads may be born in a run.
-pub const THREADS: usize = 64;
+//! The library's limits and numbers.
 
 /// How many mutexes may be held at a time.
 pub const MAX_HELD: usize = 1_024;
 
-/// How many searches of `bsearch` a thread may have under way.
+/// How many calls of `bsearch` and `pthread_once` a thread may have under way.
 pub const MAX_FRAMES: u32 = 16;
 
 /// How many bytes one `read` or `write` moves at most.
@@ -14,12 +11,6 @@ pub const MAX_BYTES: u64 = 4_096;
 
 /// How many bytes both outputs together may have.
 pub const MAX_OUTPUT: u64 = 16_777_216;
-
-/// The address to which a thread's start function returns.
-pub const END_DOOR: u64 = 0x7000_00ff_0000;
-
-/// The address to which a comparator that `bsearch` called returns.
-pub const CALL_DOOR: u64 = 0x7000_00ff_0010;
 
 /// The operation isn't permitted (POSIX, errno.h; the numbers are those of Linux).
 pub const EPERM: u64 = 1;

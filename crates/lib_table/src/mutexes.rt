@@ -87,11 +87,11 @@ pub(crate) fn trylock(
     }
 }
 
-/// Whether the thread holds the mutex of a call.
-fn is_holder(library: &Library, t: u32, ask: &Ask) -> bool
-    ensures { result ≡ is_held_by library.now (a1 ask.now) t }
+/// Whether thread `t` holds the mutex.
+pub(crate) fn is_holder(library: &Library, t: u32, mutex: u64) -> bool
+    ensures { result ≡ is_held_by library.now mutex t }
 {
-    match library.holder(ask.args[0]) {
+    match library.holder(mutex) {
         Some(owner) => owner == t,
         None => false,
     }
@@ -103,7 +103,7 @@ pub(crate) fn unlock(library: &mut Library, t: u32, ask: &Ask, back: u64) -> Ste
     ensures row { (m : Memory) → unlock library.old m t ask.now back ≡ told result library.new m }
     ensures library { is_done result ≡ false → library.new ≡ library.old }
 {
-    if !is_holder(library, t, ask) {
+    if !is_holder(library, t, ask.args[0]) {
         return ask.returned(back, EPERM);
     }
     library.release_mutex(ask.args[0]);

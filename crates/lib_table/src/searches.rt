@@ -1,22 +1,27 @@
-//! `bsearch`, and the returns of its comparator.
+//! `bsearch`, and the returns of its comparator and of the routine of `pthread_once`.
 
-ghost use Rattle.std.specs.Prelude.{◌≡◌, false};
+ghost use Rattle.std.specs.Prelude.{◌≡◌, ◌<◌, true, false, None};
+ghost use Rattle.callbacks.specs.Frame.{resumed};
 ghost use Rattle.lib_table.specs.Library.{LibraryData};
-ghost use Rattle.lib_table.specs.Searches.{call_door, comparison, search_for, searching};
-ghost use Rattle.lib_table.specs.Steps.{HasLeft, is_done, told};
+ghost use Rattle.lib_table.specs.Outcome.{unwritable};
+ghost use Rattle.lib_table.specs.Searches.{after_routine, call_door, comparison, probe_rsp, search_for, searching, searching_on};
+ghost use Rattle.lib_table.specs.Steps.{HasLeft, HasRunning, RunsRoutine, is_done, told};
 
 use crate::answer::{BadKind, Called, Stepped};
 use crate::ask::{Ask, low_32};
-use crate::limits::{CALL_DOOR, MAX_FRAMES};
+use crate::library::Library;
+use crate::limits::MAX_FRAMES;
 use crate::words::put_word;
+use address_space::CALL_DOOR;
 use callbacks::{Frame, Next, begin, resume};
 use tso_memory::{Denied, Tso};
 
-/// The search's next probe, or its end.
-fn go_on(memory: &mut Tso, frame: Frame, next: Next) -> Stepped
+/// A search's next probe, or its end; or the call of a routine, which stands as a probe.
+pub(crate) fn go_on(memory: &mut Tso, frame: Frame, next: Next) -> Stepped
     ensures row { (l : LibraryData) → searching l memory.old.memory frame next ≡ told result l memory.new.memory }
     ensures buffers { memory.new.buffers ≡ memory.old.buffers }
     ensures memory { is_done result ≡ false → memory.new ≡ memory.old }
+    ensures done { unwritable memory.old.memory (probe_rsp frame) 8 ≡ None → is_done result ≡ true }
 {
     match next {
         Next::Probe(place) => {
@@ -59,17 +64,45 @@ fn comparison(ask: &Ask) -> i32
     low_32(ask.rax).cast_signed()
 }
 
-/// A comparator returned.
-#[tactic(auto, unfolding(crate::specs::Searches::call_door))]
-pub(crate) fn call_door(memory: &mut Tso, ask: &Ask) -> Stepped
-    requires { HasLeft ask.now.top }
-    ensures row { (l : LibraryData) → call_door l memory.old.memory ask.now ≡ told result l memory.new.memory }
+/// A comparator returned with this answer, or a routine, whose control is done then.
+#[tactic(auto, unfolding(callbacks::specs::Frame::resumed))]
+fn carry_on(library: &mut Library, memory: &mut Tso, mut frame: Frame, answer: i32) -> Stepped
+    requires left { frame.lo < frame.hi }
+    requires running { HasRunning library.old.rooms frame.control }
+    ensures row { searching_on (after_routine library.old frame.control) memory.old.memory (resumed frame answer) ≡ told result library.new memory.new.memory }
     ensures buffers { memory.new.buffers ≡ memory.old.buffers }
+    ensures library { is_done result ≡ false → library.new ≡ library.old }
     ensures memory { is_done result ≡ false → memory.new ≡ memory.old }
 {
-    let Some(mut frame) = ask.top else {
-        return Stepped::Bad(BadKind::Door);
-    };
-    let next = resume(&mut frame, comparison(ask));
-    go_on(memory, frame, next)
+    match frame.once() {
+        Some(control) => {
+            library.finish(control);
+            Stepped::Done(Called::Back {
+                rax: 0,
+                rsp: frame.rsp.wrapping_add(8),
+                rip: frame.back,
+                popped: true,
+            })
+        }
+        None => {
+            let next = resume(&mut frame, answer);
+            go_on(memory, frame, next)
+        }
+    }
+}
+
+/// A comparator or a routine returned.
+#[tactic(auto, unfolding(crate::specs::Searches::call_door))]
+pub(crate) fn call_door(library: &mut Library, memory: &mut Tso, ask: &Ask) -> Stepped
+    requires left { HasLeft ask.now.top }
+    requires running { RunsRoutine library.old.rooms ask.now.top }
+    ensures row { call_door library.old memory.old.memory ask.now ≡ told result library.new memory.new.memory }
+    ensures buffers { memory.new.buffers ≡ memory.old.buffers }
+    ensures library { is_done result ≡ false → library.new ≡ library.old }
+    ensures memory { is_done result ≡ false → memory.new ≡ memory.old }
+{
+    match ask.top {
+        Some(frame) => carry_on(library, memory, frame, comparison(ask)),
+        None => Stepped::Bad(BadKind::Door),
+    }
 }

@@ -1,31 +1,32 @@
 //! `pthread_create`, `pthread_join`, `pthread_self`, and the end of a thread.
 
-ghost use Rattle.std.specs.Prelude.{◌≡◌, ℕ, ◌<◌, true, false, length};
+ghost use Rattle.std.specs.Prelude.{◌≡◌, ℕ, ◌<◌, ◌-◌, true, false};
 ghost use Rattle.tso_memory.specs.Memory.{Memory};
-ghost use Rattle.lib_table.specs.Library.{is_live, stack_top};
+ghost use Rattle.lib_table.specs.Library.{HasNumbers, is_live};
 ghost use Rattle.lib_table.specs.Row.{is_waiting};
 ghost use Rattle.lib_table.specs.Steps.{is_done, told};
-ghost use Rattle.lib_table.specs.Threads.{create, end_door, join, joined, self_id};
+ghost use Rattle.lib_table.specs.Threads.{create, end_door, first_rsp, join, joined, self_id};
 
 use crate::answer::{BadKind, Called, Stepped};
 use crate::ask::Ask;
 use crate::library::Library;
 use crate::life::Life;
-use crate::limits::{EAGAIN, EDEADLK, EINVAL, END_DOOR, ESRCH, THREADS};
+use crate::limits::{EAGAIN, EDEADLK, EINVAL, ESRCH};
 use crate::words::{put_word, put_words};
+use address_space::{END_DOOR, slot_of, stack_top};
 use tso_memory::{Denied, Tso};
 
-/// The first address above the stack of thread `t`.
-fn stack_top(t: u32) -> u64
-    requires { t < THREADS }
-    ensures { result ≡ stack_top t }
+/// Where thread `t` finds the return address of its start function.
+fn first_rsp(t: u32) -> u64
+    ensures { result ≡ first_rsp t }
 {
-    0x7000_0000_0000 + (u64::from(t) + 1) * 0x2_0000
+    stack_top(slot_of(t)) - 8
 }
 
 /// `pthread_create`: a thread is born.
 #[tactic(auto, unfolding(crate::specs::Threads::create))]
 pub(crate) fn create(library: &mut Library, memory: &mut Tso, ask: &Ask, back: u64) -> Stepped
+    requires { HasNumbers library.old }
     ensures row { create library.old memory.old.memory ask.now back ≡ told result library.new memory.new.memory }
     ensures buffers { memory.new.buffers ≡ memory.old.buffers }
     ensures library { is_done result ≡ false → library.new ≡ library.old }
@@ -39,11 +40,10 @@ pub(crate) fn create(library: &mut Library, memory: &mut Tso, ask: &Ask, back: u
         return ask.returned(back, EAGAIN);
     };
     let id = u64::from(t) + 1;
-    let written = put_words(memory, (id_place, id), (stack_top(t) - 8, END_DOOR));
-    if let Err(Denied(x)) = written {
+    if let Err(Denied(x)) = put_words(memory, (id_place, id), (first_rsp(t), END_DOOR)) {
         return Stepped::Bad(BadKind::Access(x));
     }
-    library.set_life(u64::from(t), Life::Live { start, argument });
+    library.set_life(t, Life::Live { start, argument });
     ask.returned(back, 0)
 }
 
@@ -53,10 +53,9 @@ fn take_value(
     memory: &mut Tso,
     ask: &Ask,
     back: u64,
-    u: u64,
+    u: u32,
     value: u64,
 ) -> Stepped
-    requires { u < length library.old.lives }
     ensures row { joined library.old memory.old.memory ask.now back u value ≡ told result library.new memory.new.memory }
     ensures buffers { memory.new.buffers ≡ memory.old.buffers }
     ensures library { is_done result ≡ false → library.new ≡ library.old }
@@ -68,7 +67,7 @@ fn take_value(
             return Stepped::Bad(BadKind::Access(x));
         }
     }
-    library.set_life(u, Life::Joined);
+    library.join(u);
     ask.returned(back, 0)
 }
 
@@ -85,7 +84,7 @@ pub(crate) fn join(library: &mut Library, memory: &mut Tso, t: u32, ask: &Ask, b
         return ask.returned(back, ESRCH);
     }
     let u = id - 1;
-    match library.life(u) {
+    match library.life_of(u) {
         Life::Unborn => ask.returned(back, ESRCH),
         Life::Live { .. } => {
             if u == u64::from(t) {
@@ -94,7 +93,7 @@ pub(crate) fn join(library: &mut Library, memory: &mut Tso, t: u32, ask: &Ask, b
                 Stepped::Waits
             }
         }
-        Life::Ended(value) => take_value(library, memory, ask, back, u, value),
+        Life::Ended(value) => take_value(library, memory, ask, back, u as u32, value),
         Life::Joined => ask.returned(back, ESRCH),
     }
 }
@@ -108,7 +107,7 @@ pub(crate) fn joins_live(library: &Library, t: u32, ask: &Ask) -> bool
     if id == 0 || id - 1 == u64::from(t) {
         return false;
     }
-    match library.life(id - 1) {
+    match library.life_of(id - 1) {
         Life::Live { .. } => true,
         _ => false,
     }
@@ -132,6 +131,6 @@ pub(crate) fn end_door(library: &mut Library, t: u32, ask: &Ask) -> Stepped
     if t == 0 || ask.top.is_some() {
         return Stepped::Bad(BadKind::Door);
     }
-    library.set_life(u64::from(t), Life::Ended(ask.rax));
+    library.set_life(t, Life::Ended(ask.rax));
     Stepped::Done(Called::Over)
 }

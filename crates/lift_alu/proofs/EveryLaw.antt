@@ -5,10 +5,10 @@ use Rattle.x86_forms.specs.declared.instructions.Instr.{Instr}
 use Rattle.x86_forms.specs.declared.instructions.Instr.TheVariants.{Alu, Mov, Zx, Sx, Lea, One, Mul, Imul, Div, Shift, Widen, Spread, Xchg, Set, Cmov, Nop, Pause, Endbr}
 use Rattle.x86_forms.specs.Groups.{group_of}
 use Rattle.x86_forms.specs.Limits.{InstrFits}
-use Rattle.machine_model.specs.Follow.{Lifts}
-use Rattle.machine_model.proofs.LiftAlu.{alu_law, one_law}
-use Rattle.machine_model.proofs.LiftMoves.{mov_law, zx_law, sx_law, lea_law, widen_law, xchg_law, set_law, cmov_law, nop_law, pause_law, endbr_law}
-use Rattle.machine_model.proofs.LiftArith.{shift_law, mul_law, imul_law, div_law, spread_law}
+use Rattle.lift_table.specs.Follow.{Lifts}
+use Rattle.lift_table.proofs.LiftAlu.{alu_law, one_law}
+use Rattle.lift_table.proofs.LiftMoves.{mov_law, zx_law, sx_law, lea_law, widen_law, xchg_law, set_law, cmov_law, nop_law, pause_law, endbr_law}
+use Rattle.lift_table.proofs.LiftArith.{shift_law, mul_law, imul_law, div_law, spread_law}
 use Rattle.lift_alu.proofs.Quiet.{quiet_of}
 
 pub every_law : (i : Instr) (next : ℕ) → InstrFits i → group_of i ≡ group.Private → Lifts i next

@@ -2,8 +2,8 @@
 //! that an earlier part has loaded to the operand's temporary. Temporary 0 has the address of an operand
 //! in memory; 1 and 2 have operands, 3 and 4 results.
 ghost use Rattle.std.specs.Prelude.{◌≡◌, ◌++◌, ◌∷◌, [], IfOk, true};
-ghost use Rattle.machine_model.specs.LiftLines.{ir_width, reads, puts, alone, given_at, flag_lines, zero_lines, all_five, overflow_and_carry, one_family, one_flags, shift_family, shift_flags, product_family, high_family};
-ghost use Rattle.machine_model.specs.LiftTable.{both_read, alu_parts, one_parts, count_line, counted_lines, shift_parts, product_lines, mul_ops};
+ghost use Rattle.lift_table.specs.LiftLines.{ir_width, reads, puts, alone, given_at, flag_lines, zero_lines, all_five, overflow_and_carry, one_family, one_flags, shift_family, shift_flags, product_family, high_family};
+ghost use Rattle.lift_table.specs.LiftTable.{both_read, alu_parts, one_parts, count_line, counted_lines, shift_parts, product_lines, mul_ops};
 
 use crate::lines::{
     Source, ended, given, push_cleared, push_line, push_put, push_read, push_zero_flags,

@@ -13,7 +13,7 @@ ghost use Rattle.x86_forms.specs.declared.instructions.ShiftOp.{ShiftOp};
 ghost use Rattle.x86_forms.specs.declared.operands.Mem.{Mem};
 ghost use Rattle.x86_forms.specs.declared.operands.Operand.{Operand};
 ghost use Rattle.x86_forms.specs.declared.operands.Width.{Width};
-ghost use Rattle.machine_model.specs.Follow.{Lifts};
+ghost use Rattle.lift_table.specs.Follow.{Lifts};
 
 use x86_forms::{Group, Instr};
 

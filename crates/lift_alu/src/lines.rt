@@ -1,6 +1,6 @@
 //! The lines that lifted instructions are made of, each added to those before it.
 ghost use Rattle.std.specs.Prelude.{◌≡◌, ◌++◌, ◌∷◌, [], IfOk};
-ghost use Rattle.machine_model.specs.LiftLines.{ir_width, base_register, number_in, address_line, addressed, reads, loads, puts, end_at, part, alone, given_at, flag_lines, zero_lines, all_five, all_but_carry, overflow_and_carry, cleared};
+ghost use Rattle.lift_table.specs.LiftLines.{ir_width, base_register, number_in, address_line, addressed, reads, loads, puts, end_at, part, alone, given_at, flag_lines, zero_lines, all_five, all_but_carry, overflow_and_carry, cleared};
 
 use crate::words::{ir_width, target};
 use ir_syntax::{Family, Flag, Op, Part, PartEnd, Seq};

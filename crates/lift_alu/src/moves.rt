@@ -2,8 +2,8 @@
 //! or of memory that an earlier part has loaded to temporary 1. Temporary 0 has the address of an operand
 //! in memory. `next` is the address of the next instruction.
 ghost use Rattle.std.specs.Prelude.{◌≡◌, ◌++◌, ◌∷◌, [], IfOk};
-ghost use Rattle.machine_model.specs.LiftLines.{address_line, addressed, reads, puts, alone, given_at, ir_cond, ir_width};
-ghost use Rattle.machine_model.specs.LiftTable.{both_read, lea_parts, zero_extended_to, sign_extended_to, spread_parts, cmov_parts};
+ghost use Rattle.lift_table.specs.LiftLines.{address_line, addressed, reads, puts, alone, given_at, ir_cond, ir_width};
+ghost use Rattle.lift_table.specs.LiftTable.{both_read, lea_parts, zero_extended_to, sign_extended_to, spread_parts, cmov_parts};
 
 use crate::arithmetic::push_both;
 use crate::lines::{address_line, ended, given, push_address, push_line, push_put, push_read};

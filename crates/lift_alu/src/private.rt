@@ -1,7 +1,7 @@
 ghost use Rattle.std.specs.Prelude.{◌≡◌, ℕ, ◌∷◌, [], IfOk};
 ghost use Rattle.x86_forms.specs.Groups.{group_of};
 ghost use Rattle.x86_forms.specs.declared.instructions.Group.{Group};
-ghost use Rattle.machine_model.specs.LiftTable.{lifted};
+ghost use Rattle.lift_table.specs.LiftTable.{lifted};
 
 use crate::arithmetic::{alu, div, imul, mul, one, shift};
 use crate::lines::ended;

@@ -6,11 +6,12 @@ ghost use Rattle.x86_forms.specs.Widths.{bits_in};
 ghost use Rattle.x86_model.specs.Operands.{target};
 ghost use Rattle.x86_model.specs.Registers.{half};
 ghost use Rattle.x86_model.specs.Results.{keeps_result};
-ghost use Rattle.machine_model.specs.LiftLines.{alu_family, one_family, shift_family, high_family, product_family};
+ghost use Rattle.lift_table.specs.LiftLines.{alu_family, one_family, shift_family, high_family, product_family};
 
 use ir_syntax::Family;
-pub use machine_model::conversions::{ir_cond, ir_width};
+pub use lift_table::{ir_cond, ir_width};
 use x86_forms::{AluOp, OneOp, Operand, ShiftOp};
+pub use x86_model::target;
 
 /// The family of an operation on two operands: that of SUB for CMP, and that of AND for TEST.
 pub fn alu_family(op: AluOp) -> Family
@@ -100,12 +101,4 @@ pub fn is_immediate(operand: Operand) -> bool
     ensures { result ≡ is_immediate operand }
 {
     matches!(operand, Operand::Imm(_))
-}
-
-/// The address `rel` bytes after the next instruction, modulo 2^64.
-#[tactic(auto, unfolding(x86_model::specs::Operands::target))]
-pub fn target(next: u64, rel: i32) -> u64
-    ensures { result ≡ target next rel }
-{
-    next.wrapping_add((rel as i64).cast_unsigned())
 }

@@ -27,11 +27,11 @@ use Rattle.x86_model.specs.Finishing.{finished}
 use Rattle.x86_model.specs.Operands.{address, value}
 use Rattle.x86_model.specs.Registers.{reg, low, get, loaded}
 use Rattle.x86_model.specs.Want.{want_of}
-use Rattle.machine_model.specs.Follow.{Agrees, Follows, Onward, having, ir_change}
-use Rattle.machine_model.specs.LiftLines.{ir_width, loads, address_line}
-use Rattle.machine_model.proofs.LiftNumbers.{low_same}
-use Rattle.machine_model.proofs.LiftWords.{virtual, address_is}
-use Rattle.machine_model.proofs.LiftFollow.{Numbers}
+use Rattle.lift_table.specs.Follow.{Agrees, Follows, Onward, having, ir_change}
+use Rattle.lift_table.specs.LiftLines.{ir_width, loads, address_line}
+use Rattle.lift_table.proofs.LiftNumbers.{low_same}
+use Rattle.lift_table.proofs.LiftWords.{virtual, address_is}
+use Rattle.lift_table.proofs.LiftFollow.{Numbers}
 
 -- ---- what a thread wants before and after its first access
 

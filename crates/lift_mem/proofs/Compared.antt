@@ -26,13 +26,13 @@ use Rattle.x86_model.specs.Operands.{address, value, assigned}
 use Rattle.x86_model.specs.Registers.{reg, low, get, put, written, going_to, with_flags, loaded}
 use Rattle.x86_model.specs.Finishing.{finished, cmpxchg_end, compared, comparing}
 use Rattle.x86_model.specs.declared.want.Want.TheVariants as want
-use Rattle.machine_model.specs.Follow.{Follows, Onward, Lifts, having}
-use Rattle.machine_model.specs.LiftLines.{ir_width, reads, address_line, flag_lines, all_five, alone}
-use Rattle.machine_model.specs.LiftTable.{accumulator_ops}
-use Rattle.machine_model.proofs.LiftWords.{virtual, after, reads_do, address_is, same_low, same_written, flags_do, alu_flags}
-use Rattle.machine_model.proofs.LiftFollow.{Numbers, eight, lifts, private_follows, resumed, assigned_numbers}
-use Rattle.machine_model.proofs.LiftAlu.{WasLoaded, not_loaded}
-use Rattle.machine_model.proofs.LiftNumbers.{low_lt, written_lt}
+use Rattle.lift_table.specs.Follow.{Follows, Onward, Lifts, having}
+use Rattle.lift_table.specs.LiftLines.{ir_width, reads, address_line, flag_lines, all_five, alone}
+use Rattle.lift_table.specs.LiftTable.{accumulator_ops}
+use Rattle.lift_table.proofs.LiftWords.{virtual, after, reads_do, address_is, same_low, same_written, flags_do, alu_flags}
+use Rattle.lift_table.proofs.LiftFollow.{Numbers, eight, lifts, private_follows, resumed, assigned_numbers}
+use Rattle.lift_table.proofs.LiftAlu.{WasLoaded, not_loaded}
+use Rattle.lift_table.proofs.LiftNumbers.{low_lt, written_lt}
 use Rattle.x86_flags.specs.Sums.{sub_of}
 use Rattle.x86_forms.specs.declared.instructions.AluOp.TheVariants as alu_op
 use Rattle.ir_syntax.specs.declared.line.Family.TheVariants as family

@@ -23,14 +23,14 @@ use Rattle.x86_model.specs.declared.want.Want.TheVariants as want
 use Rattle.x86_model.specs.Accesses.{first_access}
 use Rattle.x86_model.specs.Finishing.{finished, low_multiplied}
 use Rattle.x86_model.specs.Operands.{address, value}
-use Rattle.machine_model.specs.Follow.{Follows, Onward, Lifts, having}
-use Rattle.machine_model.specs.LiftLines.{ir_width, reads, loads, alone, given_at, zero_lines, all_five}
-use Rattle.machine_model.specs.LiftTable.{both_read, alu_parts, one_parts, shift_parts, mul_ops, product_lines}
-use Rattle.machine_model.proofs.LiftNumbers.{smul_comm}
-use Rattle.machine_model.proofs.LiftWords.{virtual}
-use Rattle.machine_model.proofs.LiftFollow.{Numbers, eight, lifts, resumed, no_loads, is_at_none}
-use Rattle.machine_model.proofs.LiftAlu.{not_loaded, alu_ends, one_ends}
-use Rattle.machine_model.proofs.LiftArith.{shift_ends, mul_ends, imul_ends, imul_wants, div_ends}
+use Rattle.lift_table.specs.Follow.{Follows, Onward, Lifts, having}
+use Rattle.lift_table.specs.LiftLines.{ir_width, reads, loads, alone, given_at, zero_lines, all_five}
+use Rattle.lift_table.specs.LiftTable.{both_read, alu_parts, one_parts, shift_parts, mul_ops, product_lines}
+use Rattle.lift_table.proofs.LiftNumbers.{smul_comm}
+use Rattle.lift_table.proofs.LiftWords.{virtual}
+use Rattle.lift_table.proofs.LiftFollow.{Numbers, eight, lifts, resumed, no_loads, is_at_none}
+use Rattle.lift_table.proofs.LiftAlu.{not_loaded, alu_ends, one_ends}
+use Rattle.lift_table.proofs.LiftArith.{shift_ends, mul_ends, imul_ends, imul_wants, div_ends}
 use Rattle.lift_mem.proofs.Access.{loads_follows, having_value, having_address, second_in_memory}
 
 -- ---- two operands

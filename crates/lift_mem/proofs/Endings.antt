@@ -23,11 +23,11 @@ use Rattle.x86_model.specs.declared.want.Want.TheVariants as want
 use Rattle.x86_model.specs.Operands.{assigned}
 use Rattle.x86_model.specs.Registers.{reg, low, get, put, written, going_to}
 use Rattle.x86_model.specs.Want.{want_of}
-use Rattle.machine_model.specs.Follow.{Follows, Onward}
-use Rattle.machine_model.specs.LiftLines.{ir_width, alone}
-use Rattle.machine_model.specs.LiftTable.{stack_at}
-use Rattle.machine_model.proofs.LiftWords.{virtual, same_written}
-use Rattle.machine_model.proofs.LiftFollow.{Numbers, eight, onward_agrees, goes_to, assigned_numbers}
+use Rattle.lift_table.specs.Follow.{Follows, Onward}
+use Rattle.lift_table.specs.LiftLines.{ir_width, alone}
+use Rattle.lift_table.specs.LiftTable.{stack_at}
+use Rattle.lift_table.proofs.LiftWords.{virtual, same_written}
+use Rattle.lift_table.proofs.LiftFollow.{Numbers, eight, onward_agrees, goes_to, assigned_numbers}
 
 -- ---- ends
 

@@ -12,12 +12,12 @@ use Rattle.x86_forms.specs.Limits.{OperandFits, PlaceFits, PairFits, Widens}
 use Rattle.x86_model.specs.Accesses.{first_access}
 use Rattle.x86_model.specs.Finishing.{finished}
 use Rattle.x86_model.specs.Operands.{address}
-use Rattle.machine_model.specs.Follow.{Lifts, having}
-use Rattle.machine_model.specs.LiftLines.{reads, addressed, given_at}
-use Rattle.machine_model.specs.LiftTable.{zero_extended_to, sign_extended_to, cmov_parts}
-use Rattle.machine_model.proofs.LiftFollow.{eight, lifts, resumed, no_loads}
-use Rattle.machine_model.proofs.LiftAlu.{not_loaded}
-use Rattle.machine_model.proofs.LiftMoves.{mov_ends, zero_extended_ends, sign_extended_ends, widens_le, widens_lt, set_ends, cmov_ends}
+use Rattle.lift_table.specs.Follow.{Lifts, having}
+use Rattle.lift_table.specs.LiftLines.{reads, addressed, given_at}
+use Rattle.lift_table.specs.LiftTable.{zero_extended_to, sign_extended_to, cmov_parts}
+use Rattle.lift_table.proofs.LiftFollow.{eight, lifts, resumed, no_loads}
+use Rattle.lift_table.proofs.LiftAlu.{not_loaded}
+use Rattle.lift_table.proofs.LiftMoves.{mov_ends, zero_extended_ends, sign_extended_ends, widens_le, widens_lt, set_ends, cmov_ends}
 use Rattle.lift_mem.proofs.Access.{loads_follows, wants_end, outside_memory, having_value}
 
 -- ---- MOV

@@ -14,10 +14,10 @@ use Rattle.x86_forms.specs.Limits.{OperandFits}
 use Rattle.x86_model.specs.declared.cpu.Cpu.{Cpu}
 use Rattle.x86_model.specs.Operands.{address, value}
 use Rattle.x86_model.specs.Registers.{reg, get}
-use Rattle.machine_model.specs.LiftLines.{ir_width, reads, address_line}
-use Rattle.machine_model.proofs.LiftWords.{virtual, after, reads_do, address_is, same_low}
-use Rattle.machine_model.proofs.LiftFollow.{eight}
-use Rattle.machine_model.proofs.LiftAlu.{WasLoaded, not_loaded}
+use Rattle.lift_table.specs.LiftLines.{ir_width, reads, address_line}
+use Rattle.lift_table.proofs.LiftWords.{virtual, after, reads_do, address_is, same_low}
+use Rattle.lift_table.proofs.LiftFollow.{eight}
+use Rattle.lift_table.proofs.LiftAlu.{WasLoaded, not_loaded}
 
 -- a register is read
 pub get_do : (w : Width) (t r : ℕ) (temps : List ℕ) (f : Flags) (s : Cpu) → did (Get (ir_width w) t r) (virtual s.regs temps f) ≡ virtual s.regs (slice_set temps t (get s w r)) f

@@ -28,10 +28,10 @@ use Rattle.x86_model.specs.Finishing.{finished, comparing, lock_alu_end, lock_on
 use Rattle.x86_model.specs.Operands.{address, value, assigned, given}
 use Rattle.x86_model.specs.Registers.{get, going_to, with_flags, loaded}
 use Rattle.x86_model.specs.Results.{alu, one, change_by, change_one}
-use Rattle.machine_model.specs.Follow.{Follows, Onward, Lifts, having, ir_change}
-use Rattle.machine_model.specs.LiftLines.{ir_width, reads, puts, alone, given_at, address_line, flag_lines, all_five, all_but_carry, alu_family, one_family, one_flags, lock_op, lock_one_op}
-use Rattle.machine_model.proofs.LiftWords.{virtual, after, address_is, puts_do, flags_do, alu_flags, one_flags_are}
-use Rattle.machine_model.proofs.LiftFollow.{Numbers, eight, lifts, private_follows, given_follows, resumed, is_at_none, assigned_numbers, assigned_flags}
+use Rattle.lift_table.specs.Follow.{Follows, Onward, Lifts, having, ir_change}
+use Rattle.lift_table.specs.LiftLines.{ir_width, reads, puts, alone, given_at, address_line, flag_lines, all_five, all_but_carry, alu_family, one_family, one_flags, lock_op, lock_one_op}
+use Rattle.lift_table.proofs.LiftWords.{virtual, after, address_is, puts_do, flags_do, alu_flags, one_flags_are}
+use Rattle.lift_table.proofs.LiftFollow.{Numbers, eight, lifts, private_follows, given_follows, resumed, is_at_none, assigned_numbers, assigned_flags}
 use Rattle.lift_mem.proofs.Access.{locked_follows, having_loaded, having_value}
 use Rattle.lift_mem.proofs.Operands.{operand_do}
 

@@ -19,12 +19,12 @@ use Rattle.x86_model.specs.Finishing.{finished, pushing_at, pushing, released}
 use Rattle.x86_model.specs.Operands.{address, value, given}
 use Rattle.x86_model.specs.Registers.{reg, get, put, loaded}
 use Rattle.x86_model.specs.Want.{want_of}
-use Rattle.machine_model.specs.Follow.{Follows, Onward, Lifts, having}
-use Rattle.machine_model.specs.LiftLines.{reads, alone}
-use Rattle.machine_model.specs.LiftTable.{stack_at, pushed, popped}
-use Rattle.machine_model.proofs.LiftWords.{virtual, after, reads_do}
-use Rattle.machine_model.proofs.LiftFollow.{Numbers, eight, lifts, given_follows, resumed, no_loads}
-use Rattle.machine_model.proofs.LiftAlu.{WasLoaded, not_loaded}
+use Rattle.lift_table.specs.Follow.{Follows, Onward, Lifts, having}
+use Rattle.lift_table.specs.LiftLines.{reads, alone}
+use Rattle.lift_table.specs.LiftTable.{stack_at, pushed, popped}
+use Rattle.lift_table.proofs.LiftWords.{virtual, after, reads_do}
+use Rattle.lift_table.proofs.LiftFollow.{Numbers, eight, lifts, given_follows, resumed, no_loads}
+use Rattle.lift_table.proofs.LiftAlu.{WasLoaded, not_loaded}
 use Rattle.lift_mem.proofs.Access.{load_follows, loads_follows, wants_end, outside_memory, having_value, having_loaded}
 use Rattle.lift_mem.proofs.Endings.{store_follows, whole_register, put_numbers, sum_lt, stack_do}
 use Rattle.lift_mem.proofs.Operands.{get_do}

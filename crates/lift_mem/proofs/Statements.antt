@@ -12,7 +12,7 @@ use Rattle.x86_forms.specs.declared.instructions.Instr.{Instr}
 use Rattle.x86_forms.specs.declared.instructions.Instr.TheVariants as instr
 use Rattle.x86_forms.specs.Groups.{touches_memory, group_of}
 use Rattle.x86_forms.specs.Limits.{InstrFits}
-use Rattle.machine_model.specs.Follow.{Lifts}
+use Rattle.lift_table.specs.Follow.{Lifts}
 
 -- the instruction follows if it keeps its limits and reads or writes memory
 abbrev pub LiftsInMemory : Instr → Type 0

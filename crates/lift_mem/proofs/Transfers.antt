@@ -23,12 +23,12 @@ use Rattle.x86_model.specs.Operands.{address, target, value}
 use Rattle.x86_model.specs.Registers.{reg, get, put, loaded, going_to}
 use Rattle.x86_model.specs.Results.{holds}
 use Rattle.x86_model.specs.Want.{want_of}
-use Rattle.machine_model.specs.Follow.{Follows, Onward, Lifts, having}
-use Rattle.machine_model.specs.LiftLines.{ir_cond, reads, alone}
-use Rattle.machine_model.specs.LiftTable.{stack_at, pushed, popped, called}
-use Rattle.machine_model.proofs.LiftWords.{virtual, after, reads_do, same_test}
-use Rattle.machine_model.proofs.LiftFollow.{Numbers, eight, lifts, resumed, no_loads, onward_agrees, goes_to}
-use Rattle.machine_model.proofs.LiftAlu.{WasLoaded, not_loaded}
+use Rattle.lift_table.specs.Follow.{Follows, Onward, Lifts, having}
+use Rattle.lift_table.specs.LiftLines.{ir_cond, reads, alone}
+use Rattle.lift_table.specs.LiftTable.{stack_at, pushed, popped, called}
+use Rattle.lift_table.proofs.LiftWords.{virtual, after, reads_do, same_test}
+use Rattle.lift_table.proofs.LiftFollow.{Numbers, eight, lifts, resumed, no_loads, onward_agrees, goes_to}
+use Rattle.lift_table.proofs.LiftAlu.{WasLoaded, not_loaded}
 use Rattle.lift_mem.proofs.Access.{load_follows, loads_follows, wants_end, outside_memory, having_value, having_loaded}
 use Rattle.lift_mem.proofs.Endings.{storego_follows, go_follows, whole_register, put_numbers, sum_lt, stack_do}
 use Rattle.lift_mem.proofs.Operands.{get_do}

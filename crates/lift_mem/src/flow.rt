@@ -1,7 +1,7 @@
 ghost use Rattle.std.specs.Prelude.{◌≡◌, ◌++◌, ◌∷◌, [], IfOk};
 ghost use Rattle.x86_forms.specs.Groups.{group_of};
-ghost use Rattle.machine_model.specs.LiftLines.{alone};
-ghost use Rattle.machine_model.specs.LiftTable.{lifted, called};
+ghost use Rattle.lift_table.specs.LiftLines.{alone};
+ghost use Rattle.lift_table.specs.LiftTable.{lifted, called};
 
 use crate::parts::{after_load, end_alone};
 use crate::stack::{popped, push_pushed, push_stack_at};

@@ -1,8 +1,8 @@
 //! Instructions that change memory in one locked step: temporary 1 gets the old value (temporary 2 at
 //! XCHG), and a second part makes flags and registers of it.
 ghost use Rattle.std.specs.Prelude.{◌≡◌, ◌++◌, ◌∷◌, [], IfOk, Some};
-ghost use Rattle.machine_model.specs.LiftLines.{ir_width, alone, part, lock_op, lock_one_op, address_line, reads, flag_lines, all_five};
-ghost use Rattle.machine_model.specs.LiftTable.{lifted, accumulator_ops};
+ghost use Rattle.lift_table.specs.LiftLines.{ir_width, alone, part, lock_op, lock_one_op, address_line, reads, flag_lines, all_five};
+ghost use Rattle.lift_table.specs.LiftTable.{lifted, accumulator_ops};
 
 use crate::parts::end_alone;
 use ir_syntax::{Cond, Family, LockOp, Op, Part, PartEnd};

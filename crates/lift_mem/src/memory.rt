@@ -1,6 +1,6 @@
 ghost use Rattle.std.specs.Prelude.{◌≡◌, ◌∷◌, [], IfOk};
 ghost use Rattle.x86_forms.specs.Groups.{group_of};
-ghost use Rattle.machine_model.specs.LiftTable.{lifted, imul_parts};
+ghost use Rattle.lift_table.specs.LiftTable.{lifted, imul_parts};
 
 use crate::locked::{cmpxchg, exchange, lock_alu, lock_one, xadd};
 use crate::parts::{after_load, after_loads, end_alone};

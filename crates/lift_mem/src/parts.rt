@@ -1,6 +1,6 @@
 //! Lists of parts.
 ghost use Rattle.std.specs.Prelude.{◌≡◌, ◌++◌, ◌∷◌, [], IfOk};
-ghost use Rattle.machine_model.specs.LiftLines.{loads, alone};
+ghost use Rattle.lift_table.specs.LiftLines.{loads, alone};
 
 use ir_syntax::{Part, PartEnd};
 use lift_alu::lines::{ended, push_load, push_part};

@@ -1,8 +1,8 @@
 //! PUSH, POP and LEAVE. Register 4 is rsp and 5 is rbp.
 ghost use Rattle.std.specs.Prelude.{◌≡◌, ◌++◌, ◌∷◌, [], IfOk};
 ghost use Rattle.ir_syntax.specs.declared.width.Width.TheVariants.{W64};
-ghost use Rattle.machine_model.specs.LiftLines.{alone};
-ghost use Rattle.machine_model.specs.LiftTable.{lifted, stack_at, pushed, popped};
+ghost use Rattle.lift_table.specs.LiftLines.{alone};
+ghost use Rattle.lift_table.specs.LiftTable.{lifted, stack_at, pushed, popped};
 
 use crate::parts::after_load;
 use ir_syntax::{Op, Part, PartEnd};

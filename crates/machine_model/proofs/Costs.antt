@@ -20,12 +20,14 @@ use Rattle.x86_model.specs.declared.want.Want.{Want}
 use Rattle.x86_model.specs.declared.want.Want.TheVariants as wants
 use Rattle.x86_model.specs.Want.{want}
 use Rattle.machine_model.specs.declared.ending.RunEnd.{RunEnd}
-use Rattle.machine_model.specs.declared.journal.Entry.{Entry}
-use Rattle.machine_model.specs.declared.journal.Entry.TheVariants.{Ev, Tick, Flush, Wait, Miss, Grow, Over, Full, Dead}
+use Rattle.journal_pack.specs.declared.entry.Entry.{Entry}
+use Rattle.journal_pack.specs.declared.entry.Entry.TheVariants.{Ev, Tick, Flush, Wait, Miss, Grow, Over, Full, Dead}
+use Rattle.address_space.specs.Slots.{slot_of}
+use Rattle.journal_pack.specs.Entry.{private_of, thread_of}
 use Rattle.machine_model.specs.CaseData.{CaseData}
 use Rattle.machine_model.specs.Conversions.{memory_width_of, memory_change_of, asked_at}
-use Rattle.machine_model.specs.State.{Core, Machine, core_at, with_core, list_at, start}
-use Rattle.machine_model.specs.Step.{loaded, stored, exchanged, flushed, newborn, with_birth, row_at, served, serving, carried_out, later, missed, refused, thread_of, private_of, admits, names_live, after_private, cpu_at, step_from, step}
+use Rattle.machine_model.specs.State.{Core, Machine, with_core, list_at, start}
+use Rattle.machine_model.specs.Step.{loaded, stored, exchanged, flushed, newborn, with_birth, row_at, core_with, served, serving, carried_out, later, missed, refused, slot_in, admits, lives, after_private, cpu_at, step_from, step}
 use Rattle.machine_model.specs.Gated.{Gate, Spot, Both, Stand, most_grown, spot_at, spot_last, spot_after, gate_with, gated_steps, pass, with_gate, with_machine, advance, begin, Leads, IsGated}
 use Rattle.machine_model.proofs.Independence.{if_some}
 
@@ -74,7 +76,7 @@ adds_loaded m t cpu a n None = record { steps = refl; waits = omega arith }
 adds_loaded m t cpu a n (Some x) = record { steps = refl; waits = omega arith }
 
 adds_stored : (m : Machine) (t : ℕ) (cpu : Cpu) (write : PendingWrite) (next : Cpu) (o : Option ℕ) → Adds m (stored m t cpu write next o)
-adds_stored m t cpu write next None = record { steps = refl; waits = store_waits m.tso.buffers t write }
+adds_stored m t cpu write next None = record { steps = refl; waits = store_waits m.tso.buffers (slot_of t) write }
 adds_stored m t cpu write next (Some x) = record { steps = refl; waits = omega arith }
 
 adds_exchanged : (m : Machine) (t : ℕ) (cpu : Cpu) (a n : ℕ) (change : Change) (o : Option ℕ) → Adds m (exchanged m t cpu a n change o)
@@ -91,16 +93,16 @@ adds_served m n t core what Waits p = absurd (none-some n p)
 adds_served m n t core what (Bad kind) p = subst (λ x. Adds m x) (same_Some _ n p) (record { steps = refl; waits = omega arith })
 
 adds_serving : (m n : Machine) (t : ℕ) (core : Core) (what : Asked) → serving m t core what ≡ Some n → Adds m n
-adds_serving m n t core what p = adds_served m n t core what (row_at m t core what) ((if_some (is_none_waiting (list_at m t)) _ n p).1)
+adds_serving m n t core what p = adds_served m n t core what (row_at m t core what) ((if_some (is_none_waiting (list_at m (slot_of t))) _ n p).1)
 
 adds_carried : (w : Want) (m n : Machine) (t : ℕ) (cpu : Cpu) → carried_out w m t cpu ≡ Some n → Adds m n
 adds_carried (wants.Private next) m n t cpu p = absurd (none-some n p)
 adds_carried (wants.Load a w) m n t cpu p = subst (λ x. Adds m x) (same_Some _ n p) (adds_loaded m t cpu a (size_of (memory_width_of w)) (refused m access.Load a (size_of (memory_width_of w))))
 adds_carried (wants.Store a w value next) m n t cpu p = subst (λ x. Adds m x) (same_Some _ n p) (adds_stored m t cpu (pending a (memory_width_of w) value) next (refused m access.Store a (size_of (memory_width_of w))))
-adds_carried (wants.Fence next) m n t cpu p = subst (λ x. Adds m x) (cond_some (is_none_waiting (list_at m t)) _ n p).1 (record { steps = refl; waits = omega arith })
-adds_carried (wants.Locked a w change) m n t cpu p = subst (λ x. Adds m x) (cond_some (is_none_waiting (list_at m t)) _ n p).1 (adds_exchanged m t cpu a (size_of (memory_width_of w)) (memory_change_of change) (refused m access.Locked a (size_of (memory_width_of w))))
-adds_carried (wants.Call f) m n t cpu p = adds_serving m n t (record (core_at m t) { cpu = cpu }) (Lib f) p
-adds_carried (wants.Door d) m n t cpu p = adds_serving m n t (record (core_at m t) { cpu = cpu }) (asked_at d) p
+adds_carried (wants.Fence next) m n t cpu p = subst (λ x. Adds m x) (cond_some (is_none_waiting (list_at m (slot_of t))) _ n p).1 (record { steps = refl; waits = omega arith })
+adds_carried (wants.Locked a w change) m n t cpu p = subst (λ x. Adds m x) (cond_some (is_none_waiting (list_at m (slot_of t))) _ n p).1 (adds_exchanged m t cpu a (size_of (memory_width_of w)) (memory_change_of change) (refused m access.Locked a (size_of (memory_width_of w))))
+adds_carried (wants.Call f) m n t cpu p = adds_serving m n t (core_with m t cpu) (Lib f) p
+adds_carried (wants.Door d) m n t cpu p = adds_serving m n t (core_with m t cpu) (asked_at d) p
 adds_carried (wants.Bad kind) m n t cpu p = subst (λ x. Adds m x) (same_Some _ n p) (record { steps = refl; waits = omega arith })
 
 -- ---- entries
@@ -127,9 +129,9 @@ due_flushed : (c : CaseData) (m n : Machine) (t : ℕ) (ws : List PendingWrite) 
 due_flushed c m n t [] e p = absurd (none-some n p)
 due_flushed c m n t (w ∷ ws) e p = subst (λ x. due c x + 1 ≤ due c m) (same_Some _ n p) (let h = flush_waits m.tso.buffers t w ws e in omega arith)
 
-due_missed : (c : CaseData) (strict : Bool) (m : Machine) (t : ℕ) (core : Core) (k source target : ℕ) → open_by m.ending ≡ 1 → m.steps + k < c.limit → due c (missed strict (later (with_core m t core) (k + 1)) (record { thread = t; source = source; target = target })) + 1 ≤ due c m
-due_missed c true m t core k source target going below = omega arith
-due_missed c false m t core k source target going below = omega arith
+due_missed : (c : CaseData) (strict : Bool) (m : Machine) (s t : ℕ) (core : Core) (k source target : ℕ) → open_by m.ending ≡ 1 → m.steps + k < c.limit → due c (missed strict (later (with_core m s core) (k + 1)) (record { thread = t; source = source; target = target })) + 1 ≤ due c m
+due_missed c true m s t core k source target going below = omega arith
+due_missed c false m s t core k source target going below = omega arith
 
 due_from : (c : CaseData) (m n : Machine) (e : Entry) (cpu : Cpu) → open_by m.ending ≡ 1 → step_from c m e cpu ≡ Some n → due c n + paid e ≤ due c m
 due_from c m n (Ev t k) cpu going p =
@@ -144,7 +146,7 @@ due_from c m n (Tick t k) cpu going p =
     let some = lt_of 0 k b.0 in
     let below = lt_of (m.steps + k) c.limit b.1 in
     subst (λ x. due c x + 1 ≤ due c m) q.1 (omega arith)
-due_from c m n (Flush t) cpu going p = due_flushed c m n t (list_at m t) refl p
+due_from c m n (Flush t) cpu going p = due_flushed c m n (slot_of t) (list_at m (slot_of t)) refl p
 due_from c m n (Wait t k) cpu going p =
     let q = cond_some _ _ n p in
     let b = both_of _ _ (both_of _ _ (both_of _ _ q.0).0).0 in
@@ -154,7 +156,7 @@ due_from c m n (Wait t k) cpu going p =
 due_from c m n (Miss t k source target) cpu going p =
     let q = cond_some _ _ n p in
     let b = (both_of _ _ (both_of _ _ (both_of _ _ q.0).0).0).0 in
-    subst (λ x. due c x + 1 ≤ due c m) q.1 (due_missed c c.strict m t _ k source target going (lt_of (m.steps + k) c.limit b))
+    subst (λ x. due c x + 1 ≤ due c m) q.1 (due_missed c c.strict m (slot_of t) t _ k source target going (lt_of (m.steps + k) c.limit b))
 due_from c m n (Grow t a) cpu going p = subst (λ x. due c x + 0 ≤ due c m) (cond_some _ _ n p).1 (omega arith)
 due_from c m n (Over t k) cpu going p = subst (λ x. due c x + 1 ≤ due c m) (cond_some _ _ n p).1 (omega arith)
 due_from c m n (Full t) cpu going p = subst (λ x. due c x + 1 ≤ due c m) (cond_some _ _ n p).1 (omega arith)
@@ -168,8 +170,8 @@ due_step : (c : CaseData) (m n : Machine) (e : Entry) → step c m e ≡ Some n 
 unfolding step
 due_step c m n e p =
     let q = if_some (admits m e) _ n p in
-    option_and_then_some (step_from c m e) (after_private c.image (private_of e) (cpu_at m (thread_of e))) n q.1
-    (λ cpu _ r. due_from c m n e cpu (goes_on m.ending (names_live m e) (nat_le (private_of e) 4096) q.0) r)
+    option_and_then_some (step_from c m e) (after_private c.image (private_of e) (cpu_at m (slot_in e))) n q.1
+    (λ cpu _ r. due_from c m n e cpu (goes_on m.ending (lives m (thread_of e)) (nat_le (private_of e) 4096) q.0) r)
 
 -- ---- the gate
 
@@ -187,29 +189,29 @@ room_with Dead g spot image after before s p = omega arith
 room_pass : (image : ImageData) (e : Entry) (before after : Cpu) (g n : Gate) → pass image e before after g ≡ Some n → room n + 1 ≤ room g + paid e
 unfolding pass
 room_pass image e before after g n p =
-    option_and_then_some (λ spot. Some (gate_with e g spot)) (spot_after image g.grown e before after (spot_at g (thread_of e))) n p (λ spot q r.
-    option_and_then_some (spot_last image g.grown e after (spot_at g (thread_of e))) (gated_steps image g.grown (private_of e) (record { cpu = before; left = (spot_at g (thread_of e)).left })) spot q (λ s _ w.
-    subst (λ x. room x + 1 ≤ room g + paid e) (same_Some _ n r) (room_with e g spot image after (spot_at g (thread_of e)) s w)))
+    option_and_then_some (λ spot. Some (gate_with e g spot)) (spot_after image g.grown e before after (spot_at g (slot_in e))) n p (λ spot q r.
+    option_and_then_some (spot_last image g.grown e after (spot_at g (slot_in e))) (gated_steps image g.grown (private_of e) (record { cpu = before; left = (spot_at g (slot_in e)).left })) spot q (λ s _ w.
+    subst (λ x. room x + 1 ≤ room g + paid e) (same_Some _ n r) (room_with e g spot image after (spot_at g (slot_in e)) s w)))
 
 -- ---- whole journals
 
 -- what an advance is made of
 pub record Came (c : CaseData) (b n : Both) (e : Entry) : Type 0 where
   pub stepped : step c b.machine e ≡ Some n.machine
-  pub passed : pass c.image e (cpu_at b.machine (thread_of e)) (cpu_at n.machine (thread_of e)) b.gate ≡ Some n.gate
+  pub passed : pass c.image e (cpu_at b.machine (slot_in e)) (cpu_at n.machine (slot_in e)) b.gate ≡ Some n.gate
 
 pub came : (c : CaseData) (b n : Both) (e : Entry) → advance c b e ≡ Some n → Came c b n e
 unfolding advance
 came c b n e p =
     option_and_then_some (with_machine c b e) (step c b.machine e) n p (λ m s q.
-    option_and_then_some (λ g. Some (with_gate m g)) (pass c.image e (cpu_at b.machine (thread_of e)) (cpu_at m (thread_of e)) b.gate) n q (λ g r w.
+    option_and_then_some (λ g. Some (with_gate m g)) (pass c.image e (cpu_at b.machine (slot_in e)) (cpu_at m (slot_in e)) b.gate) n q (λ g r w.
     subst (λ x. Came c b x e) (same_Some _ n w) (record { stepped = s; passed = r })))
 
 pub costs : (c : CaseData) (b n : Both) (e : Entry) → advance c b e ≡ Some n → left_of c n + 1 ≤ left_of c b
 costs c b n e p =
     let h = came c b n e p in
     let d = due_step c b.machine n.machine e h.stepped in
-    let r = room_pass c.image e (cpu_at b.machine (thread_of e)) (cpu_at n.machine (thread_of e)) b.gate n.gate h.passed in
+    let r = room_pass c.image e (cpu_at b.machine (slot_in e)) (cpu_at n.machine (slot_in e)) b.gate n.gate h.passed in
     omega arith
 
 pub all_costs : (c : CaseData) (b n : Both) (es : List Entry) → Leads c b es n → length es + left_of c n ≤ left_of c b

@@ -1,23 +1,26 @@
 -- Gated journals: longer ones, growth, and what entries of other threads leave.
-use Rattle.std.proofs.Common.{◌≡◌, ◌≢◌, ℕ, zero, suc, ◌+◌, ◌<◌, Bool, true, false, cond, List, [], ◌∷◌, ◌++◌, Some, refl, sym, ap, ◌∙◌, subst, arith, ◌==◌, ◌||◌, not, length, slice_index_or, Contains}
+use Rattle.std.proofs.Common.{◌≡◌, ◌≢◌, ℕ, zero, suc, ◌<◌, Bool, true, false, cond, List, [], ◌∷◌, ◌++◌, Some, refl, sym, ap, ◌∙◌, subst, arith, ◌==◌, ◌||◌, not, length, slice_index_or, Contains}
 use Rattle.std.specs.Prelude.{option_and_then}
 use Rattle.std.proofs.lemmas.List.{get_or-set_other}
 use Rattle.std.proofs.lemmas.Option.{option_and_then_some, same_Some, cond_some}
 use Rattle.elf_image.specs.Layout.{ImageData}
+use Rattle.address_space.specs.Slots.{slot_of}
+use Rattle.lib_table.specs.declared.slot.Slot.{Slot}
 use Rattle.lib_table.specs.Library.{is_running}
 use Rattle.x86_model.specs.declared.cpu.Cpu.{Cpu}
-use Rattle.x86_model.specs.Thread.{Thread}
 use Rattle.x86_model.specs.Want.{want}
-use Rattle.machine_model.specs.declared.journal.Entry.{Entry}
-use Rattle.machine_model.specs.declared.journal.Entry.TheVariants.{Ev, Tick, Flush, Wait, Miss, Grow, Over, Full, Dead}
+use Rattle.journal_pack.specs.declared.entry.Entry.{Entry}
+use Rattle.journal_pack.specs.declared.entry.Entry.TheVariants.{Ev, Tick, Flush, Wait, Miss, Grow, Over, Full, Dead}
 use Rattle.machine_model.specs.CaseData.{CaseData}
-use Rattle.machine_model.specs.State.{Machine, is_live, thread_at}
-use Rattle.machine_model.specs.Step.{cpu_at, step, thread_of, privately, is_code_place}
-use Rattle.machine_model.specs.Reach.{is_among}
+use Rattle.machine_model.specs.State.{Machine, Thread, thread_at}
+use Rattle.basic_blocks.specs.Places.{is_code_place}
+use Rattle.machine_model.specs.Step.{cpu_at, is_in_use, slot_in, step, privately}
+use Rattle.basic_blocks.specs.Reach.{is_among}
 use Rattle.machine_model.specs.Play.{walk, play, own}
 use Rattle.machine_model.specs.Gated.{Gate, Spot, Both, Stand, no_spot, spot_at, entered, within_block, between_blocks, moved_on, gated_step, gated_steps, spot_last, spot_after, grown_by, gate_with, pass, IsAllowed, with_gate, with_machine, advance, begin, Leads, IsGated, Within, stand_at, Untouched}
 use Rattle.machine_model.proofs.Costs.{came, both_of}
-use Rattle.machine_model.proofs.Independence.{leaves, threads_stay, lists_stay}
+use Rattle.machine_model.proofs.Independence.{HasSlots, leaves, threads_stay, lists_stay}
+use Rattle.machine_model.proofs.Sizes.{slots_stay}
 
 -- ---- longer journals
 
@@ -66,7 +69,7 @@ leads_same c b m n (e ∷ es) p q =
     let same : p.0 ≡ q.0 = same_Some p.0 q.0 (sym p.1 ∙ q.1) in
     leads_same c p.0 m n es p.3 (subst (λ x. Leads c x es n) (sym same) q.3)
 
-pub advances : (c : CaseData) (b : Both) (m : Machine) (g : Gate) (e : Entry) → step c b.machine e ≡ Some m → pass c.image e (cpu_at b.machine (thread_of e)) (cpu_at m (thread_of e)) b.gate ≡ Some g → advance c b e ≡ Some (with_gate m g)
+pub advances : (c : CaseData) (b : Both) (m : Machine) (g : Gate) (e : Entry) → step c b.machine e ≡ Some m → pass c.image e (cpu_at b.machine (slot_in e)) (cpu_at m (slot_in e)) b.gate ≡ Some g → advance c b e ≡ Some (with_gate m g)
 unfolding advance
 advances c b m g e s p = ap (option_and_then (with_machine c b e)) s ∙ ap (option_and_then (λ g. Some (with_gate m g))) p
 
@@ -85,14 +88,14 @@ within_grown Dead grown a h = h
 
 -- what an entry leaves of the gate
 pub record Passes (old new : Gate) (e : Entry) : Type 0 where
-  pub spot : (u : ℕ) → u ≢ thread_of e → spot_at new u ≡ spot_at old u
+  pub spot : (u : ℕ) → u ≢ slot_in e → spot_at new u ≡ spot_at old u
   pub grown : new.grown ≡ grown_by e old.grown
 
 pub passes : (image : ImageData) (e : Entry) (before after : Cpu) (g n : Gate) → pass image e before after g ≡ Some n → Passes g n e
 unfolding pass
 passes image e before after g n p =
-    option_and_then_some (λ spot. Some (gate_with e g spot)) (spot_after image g.grown e before after (spot_at g (thread_of e))) n p
-    (λ spot _ q. subst (λ x. Passes g x e) (same_Some _ n q) (record { spot = λ u ne. get_or-set_other g.spots (thread_of e) u spot no_spot ne; grown = refl }))
+    option_and_then_some (λ spot. Some (gate_with e g spot)) (spot_after image g.grown e before after (spot_at g (slot_in e))) n p
+    (λ spot _ q. subst (λ x. Passes g x e) (same_Some _ n q) (record { spot = λ u ne. get_or-set_other g.spots (slot_in e) u spot no_spot ne; grown = refl }))
 
 pub grown_after : (c : CaseData) (b n : Both) (e : Entry) → advance c b e ≡ Some n → n.gate.grown ≡ grown_by e b.gate.grown
 grown_after c b n e p = (passes c.image e _ _ b.gate n.gate (came c b n e p).passed).grown
@@ -124,8 +127,8 @@ is_not false h = refl
 pass_grow : (image : ImageData) (t a : ℕ) (before after : Cpu) (g n : Gate) → pass image (Grow t a) before after g ≡ Some n → is_among g.grown a ≡ false
 unfolding pass
 pass_grow image t a before after g n p =
-    option_and_then_some (λ spot. Some (gate_with (Grow t a) g spot)) (spot_after image g.grown (Grow t a) before after (spot_at g t)) n p (λ spot q _.
-    option_and_then_some (spot_last image g.grown (Grow t a) after (spot_at g t)) (gated_steps image g.grown 0 (record { cpu = before; left = (spot_at g t).left })) spot q (λ s _ w.
+    option_and_then_some (λ spot. Some (gate_with (Grow t a) g spot)) (spot_after image g.grown (Grow t a) before after (spot_at g (slot_of t))) n p (λ spot q _.
+    option_and_then_some (spot_last image g.grown (Grow t a) after (spot_at g (slot_of t))) (gated_steps image g.grown 0 (record { cpu = before; left = (spot_at g (slot_of t)).left })) spot q (λ s _ w.
     is_not _ (both_of _ _ (cond_some _ _ spot w).0).0))
 
 -- where a place may be grown, it isn't yet
@@ -157,36 +160,36 @@ untouched_itself b t = record { thread = refl; writes = refl; spot = refl; grown
 untouched_chain : {a b c : Both} {t : ℕ} → Untouched a b t → Untouched b c t → Untouched a c t
 untouched_chain p q = record { thread = q.thread ∙ p.thread; writes = q.writes ∙ p.writes; spot = q.spot ∙ p.spot; grown = λ x h. q.grown x (p.grown x h) }
 
-pub untouched_by : (c : CaseData) (b n : Both) (e : Entry) (t : ℕ) → advance c b e ≡ Some n → t ≢ thread_of e → is_live b.machine t ≡ true → Untouched b n t
-untouched_by c b n e t p ne live =
+pub untouched_by : (c : CaseData) (b n : Both) (e : Entry) (s : ℕ) → HasSlots b.machine → advance c b e ≡ Some n → s ≢ slot_in e → is_in_use b.machine.library s ≡ true → Untouched b n s
+untouched_by c b n e s sized p ne live =
     let h = came c b n e p in
     record {
-      thread = threads_stay c b.machine n.machine e h.stepped t ne live;
-      writes = lists_stay c b.machine n.machine e h.stepped t ne;
-      spot = (passes c.image e _ _ b.gate n.gate h.passed).spot t ne;
+      thread = threads_stay c b.machine n.machine e sized h.stepped s ne live;
+      writes = lists_stay c b.machine n.machine e sized h.stepped s ne;
+      spot = (passes c.image e _ _ b.gate n.gate h.passed).spot s ne;
       grown = λ a g. subst (λ x. is_among x a ≡ true) (sym (grown_after c b n e p)) (within_grown e b.gate.grown a g);
     }
 
-live_on : (c : CaseData) (b n : Both) (e : Entry) (t : ℕ) → advance c b e ≡ Some n → t ≢ thread_of e → is_live b.machine t ≡ true → is_live n.machine t ≡ true
-live_on c b n e t p ne live = ap is_running ((leaves c b.machine n.machine e (came c b n e p).stepped).lives t ne live) ∙ live
+live_on : (c : CaseData) (b n : Both) (e : Entry) (s : ℕ) → HasSlots b.machine → advance c b e ≡ Some n → s ≢ slot_in e → is_in_use b.machine.library s ≡ true → is_in_use n.machine.library s ≡ true
+live_on c b n e s sized p ne live = ap (λ (x : Slot). is_running x.life) ((leaves c b.machine n.machine e sized (came c b n e p).stepped).lives s ne live) ∙ live
 
 -- without an entry of t the first isn't one, nor is one among the rest
 cons_nil : {A : Type 0} {P : Type 0} (x : A) (xs : List A) → x ∷ xs ≡ [] → P
 cons_nil x xs e = absurd (grind arith)
 
-own_none : (t : ℕ) (e : Entry) (es : List Entry) → own t (e ∷ es) ≡ [] → (t ≢ thread_of e) × (own t es ≡ [])
+own_none : (t : ℕ) (e : Entry) (es : List Entry) → own t (e ∷ es) ≡ [] → (t ≢ slot_in e) × (own t es ≡ [])
 own_none t e es none =
-    elim (thread_of e == t) as (λ b. (thread_of e == t) ≡ b → cond b (e ∷ own t es) (own t es) ≡ [] → (t ≢ thread_of e) × (own t es ≡ [])) [
+    elim (slot_in e == t) as (λ b. (slot_in e == t) ≡ b → cond b (e ∷ own t es) (own t es) ≡ [] → (t ≢ slot_in e) × (own t es ≡ [])) [
       | true ↦ λ _ n. cons_nil e (own t es) n
       | false ↦ λ h n. (grind arith, n)
     ] refl none
 
-pub untouched : (c : CaseData) (b n : Both) (t : ℕ) (es : List Entry) → own t es ≡ [] → is_live b.machine t ≡ true → Leads c b es n → Untouched b n t
+pub untouched : (c : CaseData) (b n : Both) (s : ℕ) (es : List Entry) → HasSlots b.machine → own s es ≡ [] → is_in_use b.machine.library s ≡ true → Leads c b es n → Untouched b n s
 unfolding Leads
-untouched c b n t [] none live p = subst (λ x. Untouched b x t) p (untouched_itself b t)
-untouched c b n t (e ∷ es) none live p =
-    let parts = own_none t e es none in
-    untouched_chain (untouched_by c b p.0 e t p.1 parts.0 live) (untouched c p.0 n t es parts.1 (live_on c b p.0 e t p.1 parts.0 live) p.3)
+untouched c b n s [] sized none live p = subst (λ x. Untouched b x s) p (untouched_itself b s)
+untouched c b n s (e ∷ es) sized none live p =
+    let parts = own_none s e es none in
+    untouched_chain (untouched_by c b p.0 e s sized p.1 parts.0 live) (untouched c p.0 n s es (slots_stay c b.machine p.0.machine e sized (came c b p.0 e p.1).stepped) parts.1 (live_on c b p.0 e s sized p.1 parts.0 live) p.3)
 
 -- ---- private steps after growth
 
@@ -214,13 +217,13 @@ steps_grow image old new w (suc k) s d e =
     ap (option_and_then (gated_step image new)) (steps_grow image old new w k s x p) ∙ step_grows image old new w x d q)
 
 abbrev stand_by : Thread → Spot → Stand
-stand_by thread spot = record { cpu = thread.cpu; left = spot.left }
+stand_by thread spot = record { cpu = thread.core.cpu; left = spot.left }
 
 -- private steps that may be made in blocks may still be made after entries of other threads
-pub ahead_untouched : (c : CaseData) (b n : Both) (t k : ℕ) (d : Stand) → Untouched b n t → gated_steps c.image b.gate.grown k (stand_at b t) ≡ Some d → gated_steps c.image n.gate.grown k (stand_at n t) ≡ Some d
-ahead_untouched c b n t k d u e =
-    let same : stand_at n t ≡ stand_at b t = ap (λ x. stand_by x (spot_at n.gate t)) u.thread ∙ ap (stand_by (thread_at b.machine t)) u.spot in
-    ap (gated_steps c.image n.gate.grown k) same ∙ steps_grow c.image b.gate.grown n.gate.grown u.grown k (stand_at b t) d e
+pub ahead_untouched : (c : CaseData) (b n : Both) (s k : ℕ) (d : Stand) → Untouched b n s → gated_steps c.image b.gate.grown k (stand_at b s) ≡ Some d → gated_steps c.image n.gate.grown k (stand_at n s) ≡ Some d
+ahead_untouched c b n s k d u e =
+    let same : stand_at n s ≡ stand_at b s = ap (λ x. stand_by x (spot_at n.gate s)) u.thread ∙ ap (stand_by (thread_at b.machine s)) u.spot in
+    ap (gated_steps c.image n.gate.grown k) same ∙ steps_grow c.image b.gate.grown n.gate.grown u.grown k (stand_at b s) d e
 
-pub ahead_stays : (c : CaseData) (b n : Both) (t k : ℕ) (es : List Entry) (d : Stand) → own t es ≡ [] → is_live b.machine t ≡ true → Leads c b es n → gated_steps c.image b.gate.grown k (stand_at b t) ≡ Some d → gated_steps c.image n.gate.grown k (stand_at n t) ≡ Some d
-ahead_stays c b n t k es d none live p e = ahead_untouched c b n t k d (untouched c b n t es none live p) e
+pub ahead_stays : (c : CaseData) (b n : Both) (s k : ℕ) (es : List Entry) (d : Stand) → HasSlots b.machine → own s es ≡ [] → is_in_use b.machine.library s ≡ true → Leads c b es n → gated_steps c.image b.gate.grown k (stand_at b s) ≡ Some d → gated_steps c.image n.gate.grown k (stand_at n s) ≡ Some d
+ahead_stays c b n s k es d sized none live p e = ahead_untouched c b n s k d (untouched c b n s es sized none live p) e

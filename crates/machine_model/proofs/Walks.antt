@@ -1,12 +1,13 @@
 -- Walks over lists, and played journals.
-use Rattle.std.proofs.Common.{◌≡◌, ◌+◌, cond, List, [], ◌∷◌, ◌++◌, Option, Some, None, refl, ap, ◌∙◌}
+use Rattle.std.proofs.Common.{◌≡◌, cond, List, [], ◌∷◌, ◌++◌, Option, Some, None, refl, ap, ◌∙◌}
 use Rattle.std.specs.Prelude.{option_and_then, is_none, nat_le, ◌&&◌}
 use Rattle.std.proofs.lemmas.Option.{none-some}
 use Rattle.machine_model.specs.declared.ending.RunEnd.{RunEnd}
-use Rattle.machine_model.specs.declared.journal.Entry.{Entry}
+use Rattle.journal_pack.specs.declared.entry.Entry.{Entry}
 use Rattle.machine_model.specs.CaseData.{CaseData}
 use Rattle.machine_model.specs.State.{Machine, start}
-use Rattle.machine_model.specs.Step.{step, names_live, private_of, thread_of, cpu_at, step_from, after_private}
+use Rattle.journal_pack.specs.Entry.{private_of, thread_of}
+use Rattle.machine_model.specs.Step.{step, lives, slot_in, cpu_at, step_from, after_private}
 use Rattle.machine_model.specs.Play.{walk, play}
 
 pub walk_append : {S E : Type 0} (f : S → E → Option S) (s : S) (xs ys : List E) → walk f s (xs ++ ys) ≡ option_and_then (λ n. walk f n ys) (walk f s xs)
@@ -36,7 +37,7 @@ play_more c journal e = walk_more (step c) (start c) journal e
 pub ended_no_step : (c : CaseData) (m : Machine) (e : Entry) (end : RunEnd) → m.ending ≡ Some end → step c m e ≡ None
 unfolding step
 ended_no_step c m e end p =
-    elim m.ending as (λ o. o ≡ Some end → cond (is_none o && names_live m e && nat_le (private_of e) 4096) (option_and_then (step_from c m e) (after_private c.image (private_of e) (cpu_at m (thread_of e)))) None ≡ None) [
+    elim m.ending as (λ o. o ≡ Some end → cond (is_none o && lives m (thread_of e) && nat_le (private_of e) 4096) (option_and_then (step_from c m e) (after_private c.image (private_of e) (cpu_at m (slot_in e)))) None ≡ None) [
       | None ↦ λ q. absurd (none-some end q)
       | Some x ↦ λ q. refl
     ] p

@@ -3,13 +3,16 @@ use Rattle.std.specs.Prelude.{◌≡◌, ℕ, zero, suc, ◌+◌, ◌≤◌, Boo
 use Rattle.elf_image.specs.Layout.{ImageData}
 use Rattle.x86_model.specs.declared.cpu.Cpu.{Cpu}
 use Rattle.x86_model.specs.Want.{want}
-use Rattle.machine_model.specs.declared.journal.Entry.{Entry}
-use Rattle.machine_model.specs.declared.journal.Entry.TheVariants.{Ev, Tick, Flush, Wait, Miss, Grow, Over, Full, Dead}
+use Rattle.journal_pack.specs.declared.entry.Entry.{Entry}
+use Rattle.journal_pack.specs.declared.entry.Entry.TheVariants.{Ev, Tick, Flush, Wait, Miss, Grow, Over, Full, Dead}
 use Rattle.machine_model.specs.CaseData.{CaseData}
 use Rattle.machine_model.specs.State.{Machine, list_at, start, thread_at}
-use Rattle.machine_model.specs.Step.{cpu_at, is_code_place, privately, private_of, step, thread_of}
-use Rattle.machine_model.specs.Span.{span}
-use Rattle.machine_model.specs.Reach.{is_among, IsReach}
+use Rattle.basic_blocks.specs.Places.{is_code_place}
+use Rattle.journal_pack.specs.Entry.{private_of}
+use Rattle.machine_model.specs.Step.{cpu_at, privately, slot_in, step}
+use Rattle.address_space.specs.Slots.{slot_of}
+use Rattle.basic_blocks.specs.Span.{span}
+use Rattle.basic_blocks.specs.Reach.{is_among, IsReach}
 
 -- how many places may be grown
 abbrev pub most_grown : ℕ
@@ -130,11 +133,11 @@ grown_by (Full t) grown = grown
 grown_by Dead grown = grown
 
 abbrev pub gate_with : Entry → Gate → Spot → Gate
-gate_with e g spot = record { grown = grown_by e g.grown; spots = slice_set g.spots (thread_of e) spot }
+gate_with e g spot = record { grown = grown_by e g.grown; spots = slice_set g.spots (slot_in e) spot }
 
 -- the gate after an entry, by what its thread works on before and after it
 unfoldable pub pass : ImageData → Entry → Cpu → Cpu → Gate → Option Gate
-pass image e before after g = option_and_then (λ spot. Some (gate_with e g spot)) (spot_after image g.grown e before after (spot_at g (thread_of e)))
+pass image e before after g = option_and_then (λ spot. Some (gate_with e g spot)) (spot_after image g.grown e before after (spot_at g (slot_in e)))
 
 -- ---- growth
 
@@ -158,7 +161,7 @@ IsAllowed image g (Tick t k) = ⊤
 IsAllowed image g (Flush t) = ⊤
 IsAllowed image g (Wait t k) = ⊤
 IsAllowed image g (Miss t k source target) = ⊤
-IsAllowed image g (Grow t a) = IsGrowth image g.grown a (spot_at g t).latest
+IsAllowed image g (Grow t a) = IsGrowth image g.grown a (spot_at g (slot_of t)).latest
 IsAllowed image g (Over t k) = ⊤
 IsAllowed image g (Full t) = ⊤
 IsAllowed image g Dead = ⊤
@@ -174,7 +177,7 @@ abbrev pub with_gate : Machine → Gate → Both
 with_gate m g = record { machine = m; gate = g }
 
 abbrev pub with_machine : CaseData → Both → Entry → Machine → Option Both
-with_machine c b e m = option_and_then (λ g. Some (with_gate m g)) (pass c.image e (cpu_at b.machine (thread_of e)) (cpu_at m (thread_of e)) b.gate)
+with_machine c b e m = option_and_then (λ g. Some (with_gate m g)) (pass c.image e (cpu_at b.machine (slot_in e)) (cpu_at m (slot_in e)) b.gate)
 
 -- an entry that is a step and may come
 unfoldable pub advance : CaseData → Both → Entry → Option Both

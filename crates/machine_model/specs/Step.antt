@@ -1,19 +1,20 @@
 -- One step of the plain machine: what an entry of a journal does to it.
-use Rattle.std.specs.Prelude.{ℕ, zero, suc, ◌+◌, ◌-◌, ◌%◌, ◌^◌, Bool, true, false, ◌&&◌, ◌||◌, not, ◌==◌, nat_lt, nat_le, if◌then◌else◌, List, [], ◌∷◌, ◌++◌, length, take, replicate, slice_get, slice_set, find, Option, Some, None, option_and_then, is_none}
+use Rattle.std.specs.Prelude.{ℕ, zero, suc, ◌+◌, ◌-◌, ◌%◌, ◌^◌, Bool, true, false, ◌&&◌, not, ◌==◌, nat_lt, nat_le, if◌then◌else◌, List, [], ◌∷◌, ◌++◌, length, take, replicate, slice_get, slice_set, find, Option, Some, None, option_and_then, is_none}
 use Rattle.std.specs.List.{list_all}
 use Rattle.elf_image.specs.declared.place.Function.TheVariants as function
-use Rattle.elf_image.specs.Layout.{ImageData, function_at}
+use Rattle.elf_image.specs.Layout.{ImageData}
 use Rattle.callbacks.specs.declared.Frame.{Frame}
-use Rattle.guest_map.specs.Addresses.{top}
+use Rattle.address_space.specs.Addresses.{top}
+use Rattle.address_space.specs.Slots.{slot_of}
 use Rattle.lib_table.specs.declared.answer.BadKind.{BadKind}
 use Rattle.lib_table.specs.declared.answer.BadKind.TheVariants.{Access}
 use Rattle.lib_table.specs.declared.answer.Called.{Called}
-use Rattle.lib_table.specs.declared.answer.Called.TheVariants.{Back, Probe, Over}
+use Rattle.lib_table.specs.declared.answer.Called.TheVariants.{Back, Probe, Over, Stay}
 use Rattle.lib_table.specs.declared.ask.Ask.{Ask}
 use Rattle.lib_table.specs.declared.ask.Asked.{Asked}
 use Rattle.lib_table.specs.declared.ask.Asked.TheVariants.{Lib, EndDoor, CallDoor}
-use Rattle.lib_table.specs.Library.{LibraryData, birth}
-use Rattle.lib_table.specs.Library as library
+use Rattle.lib_table.specs.declared.slot.Birth.{Birth}
+use Rattle.lib_table.specs.Library.{LibraryData, birth, is_running, slot_at}
 use Rattle.lib_table.specs.Outcome.{RowResult, Done, Waits, Bad, low_32}
 use Rattle.lib_table.specs.Row.{row, is_waiting}
 use Rattle.miss_report.specs.declared.miss.Miss.{Miss as MissData}
@@ -30,27 +31,25 @@ use Rattle.x86_model.specs.declared.want.Want.{Want}
 use Rattle.x86_model.specs.declared.want.Want.TheVariants as wants
 use Rattle.x86_model.specs.Registers.{reg}
 use Rattle.x86_model.specs.Thread as thread
-use Rattle.x86_model.specs.Want.{want, door_at}
+use Rattle.x86_model.specs.Want.{want}
+use Rattle.basic_blocks.specs.Places.{is_code_place}
 use Rattle.machine_model.specs.declared.ending.RunEnd.{RunEnd}
 use Rattle.machine_model.specs.declared.ending.RunEnd.TheVariants as end
-use Rattle.machine_model.specs.declared.journal.Entry.{Entry}
-use Rattle.machine_model.specs.declared.journal.Entry.TheVariants.{Ev, Tick, Flush, Wait, Miss, Grow, Over as OverLimit, Full, Dead}
+use Rattle.journal_pack.specs.declared.entry.Entry.{Entry}
+use Rattle.journal_pack.specs.declared.entry.Entry.TheVariants.{Ev, Tick, Flush, Wait, Miss, Grow, Over as OverLimit, Full, Dead}
+use Rattle.journal_pack.specs.Entry.{private_of, thread_of}
 use Rattle.machine_model.specs.CaseData.{CaseData}
 use Rattle.machine_model.specs.Conversions.{memory_width_of, memory_change_of, kind_of, asked_at}
-use Rattle.machine_model.specs.State.{Core, no_core, Machine, core_at, with_core, list_at, with_list, is_live, thread_numbers}
+use Rattle.machine_model.specs.State.{Core, no_core, Machine, core_at, with_core, list_at, with_list, is_live, thread_in, slots}
 
--- an address that is no door and no place of a library function
-abbrev pub is_code_place : ImageData → ℕ → Bool
-is_code_place image a = is_none (door_at a) && is_none (function_at a image.entries)
-
--- ---- words for what a step leaves
+-- ---- words for what a step leaves: s is a slot, t the number of a thread
 
 abbrev pub cpu_at : Machine → ℕ → Cpu
-cpu_at m t = (core_at m t).cpu
+cpu_at m s = (core_at m s).cpu
 
--- a thread's registers become these
+-- the registers of a slot's thread become these
 abbrev pub with_cpu : Machine → ℕ → Cpu → Machine
-with_cpu m t cpu = with_core m t (record (core_at m t) { cpu = cpu })
+with_cpu m s cpu = with_core m s (record (core_at m s) { cpu = cpu })
 
 -- so many steps later
 abbrev pub later : Machine → ℕ → Machine
@@ -61,7 +60,7 @@ ended m e = record m { ending = Some e }
 
 -- the run ends at a thread's step that can't be made; nothing else changes
 abbrev pub faulted : Machine → ℕ → Cpu → BadKind → Machine
-faulted m t cpu kind = ended (with_cpu m t cpu) (end.Fault t cpu.rip kind)
+faulted m t cpu kind = ended (with_cpu m (slot_of t) cpu) (end.Fault t cpu.rip kind)
 
 -- an instruction has what it asked of memory
 abbrev pub answered : Cpu → ℕ → Cpu
@@ -74,23 +73,23 @@ refused m right a n = first_denied (may m.tso.memory right) a n
 -- ---- memory: t is the thread, cpu what it works on, and the last argument the first refused address, if there is one
 
 abbrev pub loaded : Machine → ℕ → Cpu → ℕ → ℕ → Option ℕ → Machine
-loaded m t cpu a n None = with_cpu m t (answered cpu (number_from (seen_by m.tso t) n a))
+loaded m t cpu a n None = with_cpu m (slot_of t) (answered cpu (number_from (seen_by m.tso (slot_of t)) n a))
 loaded m t cpu a n (Some x) = faulted m t cpu (Access x)
 
 -- the write joins the thread's list; memory stays as it was
 abbrev pub stored : Machine → ℕ → Cpu → PendingWrite → Cpu → Option ℕ → Machine
-stored m t cpu write next None = with_list (with_cpu m t next) t (list_at m t ++ write ∷ [])
+stored m t cpu write next None = with_list (with_cpu m (slot_of t) next) (slot_of t) (list_at m (slot_of t) ++ write ∷ [])
 stored m t cpu write next (Some x) = faulted m t cpu (Access x)
 
 -- memory itself is read and written in one step
 abbrev pub exchanged : Machine → ℕ → Cpu → ℕ → ℕ → memory_change.Change → Option ℕ → Machine
-exchanged m t cpu a n change None = record (with_cpu m t (answered cpu (memory_number m.tso n a))) { tso = tso.exchanged m.tso n a change }
+exchanged m t cpu a n change None = record (with_cpu m (slot_of t) (answered cpu (memory_number m.tso n a))) { tso = tso.exchanged m.tso n a change }
 exchanged m t cpu a n change (Some x) = faulted m t cpu (Access x)
 
--- the oldest of a thread's writes goes to memory; none does where none waits
+-- the oldest write of a slot's thread goes to memory; none does where none waits
 abbrev pub flushed : Machine → ℕ → List PendingWrite → Option Machine
-flushed m t [] = None
-flushed m t (write ∷ writes) = Some (record m { tso = tso.flushed m.tso t (write ∷ writes) })
+flushed m s [] = None
+flushed m s (write ∷ writes) = Some (record m { tso = tso.flushed m.tso s (write ∷ writes) })
 
 -- ---- the library
 
@@ -102,7 +101,7 @@ ask_of core what = record { what = what; args = reg core.cpu 7 ∷ reg core.cpu 
 abbrev pub row_at : Machine → ℕ → Core → Asked → RowResult
 row_at m t core what = row m.library m.tso.memory t (ask_of core what)
 
--- the searches without the innermost
+-- the calls back without the innermost
 abbrev pub without_top : List Frame → List Frame
 without_top frames = take (length frames - 1) frames
 
@@ -110,21 +109,27 @@ without_top frames = take (length frames - 1) frames
 abbrev pub returned : Cpu → ℕ → ℕ → ℕ → Cpu
 returned cpu rax rsp rip = record cpu { regs = slice_set (slice_set cpu.regs 0 rax) 4 rsp; rip = rip }
 
--- the comparator is called with the key and an element, 16 bytes further down the stack
+-- a comparator gets the key and an element; the routine of a control gets nothing
+abbrev pub called_with : Option ℕ → List ℕ → ℕ → ℕ → List ℕ
+called_with None regs key place = slice_set (slice_set regs 7 key) 6 place
+called_with (Some control) regs key place = regs
+
+-- the function of a frame is called, 16 bytes further down the stack
 abbrev pub probing : Cpu → Frame → ℕ → Cpu
-probing cpu frame place = record cpu { regs = slice_set (slice_set (slice_set cpu.regs 7 frame.key) 6 place) 4 ((frame.rsp + (2 ^ 64 - 16)) % 2 ^ 64); rip = frame.compar }
+probing cpu frame place = record cpu { regs = slice_set (called_with frame.control cpu.regs frame.key place) 4 ((frame.rsp + (2 ^ 64 - 16)) % 2 ^ 64); rip = frame.compar }
 
--- a return of the comparator goes on with the search that is there, a call of `bsearch` begins one
-abbrev pub searches_before : Asked → List Frame → List Frame
-searches_before CallDoor frames = without_top frames
-searches_before EndDoor frames = frames
-searches_before (Lib f) frames = frames
+-- a return of a comparator goes on with the search that is there, a call begins one
+abbrev pub frames_before : Asked → List Frame → List Frame
+frames_before CallDoor frames = without_top frames
+frames_before EndDoor frames = frames
+frames_before (Lib f) frames = frames
 
--- the thread after its request was carried out
+-- the thread after its request was carried out; one that stays is at the call with all registers as they were
 abbrev pub called : Core → Asked → Called → Core
 called core what (Back rax rsp rip false) = record core { cpu = returned core.cpu rax rsp rip }
 called core what (Back rax rsp rip true) = record { cpu = returned core.cpu rax rsp rip; frames = without_top core.frames }
-called core what (Probe frame place) = record { cpu = probing core.cpu frame place; frames = searches_before what core.frames ++ frame ∷ [] }
+called core what (Probe frame place) = record { cpu = probing core.cpu frame place; frames = frames_before what core.frames ++ frame ∷ [] }
+called core what Stay = core
 called core what Over = core
 
 -- `exit` ends the run with the low 32 bits of its argument
@@ -134,27 +139,31 @@ exit_by core (Lib f) = None
 exit_by core EndDoor = None
 exit_by core CallDoor = None
 
--- the thread that lives after a request and didn't before: `pthread_create` bore it
-abbrev pub newborn : LibraryData → LibraryData → Option ℕ
-newborn before after = find (λ u. library.is_live after u && not (library.is_live before u)) thread_numbers
+-- a thread lives in a slot
+abbrev pub is_in_use : LibraryData → ℕ → Bool
+is_in_use l s = is_running (slot_at l s).life
 
--- a thread u is born: it calls its start function with its argument, below which it finds its return address; all else is 0
-abbrev pub born_core : ℕ → Option (ℕ × ℕ) → Core
-born_core u None = no_core
-born_core u (Some b) = record { cpu = record thread.start { regs = slice_set (slice_set (replicate 16 0) 7 b.1) 4 (top u - 8); rip = b.0 }; frames = [] }
+-- the slot in which a thread lives after a request and none did before: `pthread_create` bore it
+abbrev pub newborn : LibraryData → LibraryData → Option ℕ
+newborn before after = find (λ s. is_in_use after s && not (is_in_use before s)) slots
+
+-- a thread is born in a slot: it calls its start function with its argument, below which it finds its return address; all else is 0
+abbrev pub born_core : ℕ → Option Birth → Core
+born_core s None = no_core
+born_core s (Some b) = record { cpu = record thread.start { regs = slice_set (slice_set (replicate 16 0) 7 b.argument) 4 (top s - 8); rip = b.start }; frames = [] }
 
 abbrev pub with_birth : Machine → Option ℕ → Machine
 with_birth m None = m
-with_birth m (Some u) = with_core m u (born_core u (birth m.library u))
+with_birth m (Some s) = with_core m s (born_core s (birth m.library s))
 
 -- thread t's request is carried out; one that waits is no step
 abbrev pub served : Machine → ℕ → Core → Asked → RowResult → Option Machine
-served m t core what (Done library memory answer) = Some (with_birth (record (with_core m t (called core what answer)) { library = library; tso = record m.tso { memory = memory }; ending = exit_by core what }) (newborn m.library library))
+served m t core what (Done library memory answer) = Some (with_birth (record (with_core m (slot_of t) (called core what answer)) { library = library; tso = record m.tso { memory = memory }; ending = exit_by core what }) (newborn m.library library))
 served m t core what Waits = None
 served m t core what (Bad kind) = Some (faulted m t core.cpu kind)
 
 abbrev pub serving : Machine → ℕ → Core → Asked → Option Machine
-serving m t core what = if is_none_waiting (list_at m t) then served m t core what (row_at m t core what) else None
+serving m t core what = if is_none_waiting (list_at m (slot_of t)) then served m t core what (row_at m t core what) else None
 
 -- ---- wants
 
@@ -185,15 +194,19 @@ asked_by (wants.Call f) = Some (Lib f)
 asked_by (wants.Door d) = Some (asked_at d)
 asked_by (wants.Bad kind) = None
 
+-- the thread of a number works on this, with the calls back that it has under way
+abbrev pub core_with : Machine → ℕ → Cpu → Core
+core_with m t cpu = record (core_at m (slot_of t)) { cpu = cpu }
+
 -- The step that isn't private. Fence, locked and library steps need that no own write waits.
 abbrev pub carried_out : Want → Machine → ℕ → Cpu → Option Machine
 carried_out (wants.Private next) m t cpu = None
 carried_out (wants.Load a w) m t cpu = let n = size_of (memory_width_of w) in Some (loaded m t cpu a n (refused m access.Load a n))
 carried_out (wants.Store a w value next) m t cpu = let n = size_of (memory_width_of w) in Some (stored m t cpu (pending a (memory_width_of w) value) next (refused m access.Store a n))
-carried_out (wants.Fence next) m t cpu = if is_none_waiting (list_at m t) then Some (with_cpu m t next) else None
-carried_out (wants.Locked a w change) m t cpu = let n = size_of (memory_width_of w) in if is_none_waiting (list_at m t) then Some (exchanged m t cpu a n (memory_change_of change) (refused m access.Locked a n)) else None
-carried_out (wants.Call f) m t cpu = serving m t (record (core_at m t) { cpu = cpu }) (Lib f)
-carried_out (wants.Door d) m t cpu = serving m t (record (core_at m t) { cpu = cpu }) (asked_at d)
+carried_out (wants.Fence next) m t cpu = if is_none_waiting (list_at m (slot_of t)) then Some (with_cpu m (slot_of t) next) else None
+carried_out (wants.Locked a w change) m t cpu = let n = size_of (memory_width_of w) in if is_none_waiting (list_at m (slot_of t)) then Some (exchanged m t cpu a n (memory_change_of change) (refused m access.Locked a n)) else None
+carried_out (wants.Call f) m t cpu = serving m t (core_with m t cpu) (Lib f)
+carried_out (wants.Door d) m t cpu = serving m t (core_with m t cpu) (asked_at d)
 carried_out (wants.Bad kind) m t cpu = Some (faulted m t cpu (kind_of kind))
 
 -- thread t stands at a call that waits for another thread
@@ -202,37 +215,26 @@ waits_for m t core None = false
 waits_for m t core (Some what) = is_waiting (row_at m t core what)
 
 abbrev pub waits_at : ImageData → Machine → ℕ → Cpu → Bool
-waits_at image m t cpu = waits_for m t (record (core_at m t) { cpu = cpu }) (asked_by (want image cpu))
+waits_at image m t cpu = waits_for m t (core_with m t cpu) (asked_by (want image cpu))
+
+-- the thread that lives in a slot, if one does, stands at a call that waits
+abbrev pub is_stuck : ImageData → Machine → ℕ → Option ℕ → Bool
+is_stuck image m s None = true
+is_stuck image m s (Some t) = waits_at image m t (cpu_at m s)
 
 -- no thread can go on: each that lives stands at a call that waits, and no write does
 abbrev pub is_deadlocked : ImageData → Machine → Bool
-is_deadlocked image m = list_all (λ t. not (is_live m t) || waits_at image m t (cpu_at m t)) thread_numbers && list_all is_none_waiting m.tso.buffers
+is_deadlocked image m = list_all (λ s. is_stuck image m s (thread_in m s)) slots && list_all is_none_waiting m.tso.buffers
 
 -- ---- entries
 
--- the thread that an entry names; 64 for `Dead`, which names none
-abbrev pub thread_of : Entry → ℕ
-thread_of (Ev t k) = t
-thread_of (Tick t k) = t
-thread_of (Flush t) = t
-thread_of (Wait t k) = t
-thread_of (Miss t k source target) = t
-thread_of (Grow t a) = t
-thread_of (OverLimit t k) = t
-thread_of (Full t) = t
-thread_of Dead = 64
+-- the slot of the thread that an entry names; 64 for `Dead`, which names none
+abbrev pub slot_named : Option ℕ → ℕ
+slot_named None = 64
+slot_named (Some t) = slot_of t
 
--- with how many private steps an entry begins
-abbrev pub private_of : Entry → ℕ
-private_of (Ev t k) = k
-private_of (Tick t k) = k
-private_of (Flush t) = 0
-private_of (Wait t k) = k
-private_of (Miss t k source target) = k
-private_of (Grow t a) = 0
-private_of (OverLimit t k) = k
-private_of (Full t) = 0
-private_of Dead = 0
+abbrev pub slot_in : Entry → ℕ
+slot_in e = slot_named (thread_of e)
 
 -- a miss ends a strict run
 abbrev pub missed : Bool → Machine → MissData → Machine
@@ -242,24 +244,24 @@ missed false m miss = m
 -- Each entry, where cpu is what its thread works on after the entry's private steps.
 abbrev pub step_from : CaseData → Machine → Entry → Cpu → Option Machine
 step_from c m (Ev t k) cpu = if nat_lt (m.steps + k) c.limit then carried_out (want c.image cpu) (later m (k + 1)) t cpu else None
-step_from c m (Tick t k) cpu = if nat_lt 0 k && nat_lt (m.steps + k) c.limit then Some (later (with_cpu m t cpu) k) else None
-step_from c m (Flush t) cpu = flushed m t (list_at m t)
-step_from c m (Wait t k) cpu = if nat_lt 0 k && nat_lt (m.steps + k) c.limit && is_none_waiting (list_at m t) && waits_at c.image m t cpu then Some (later (with_cpu m t cpu) k) else None
-step_from c m (Miss t k source target) cpu = if nat_lt (m.steps + k) c.limit && cpu.last == source && cpu.rip == target && is_code_place c.image target then Some (missed c.strict (later (with_cpu m t cpu) (k + 1)) (record { thread = t; source = source; target = target })) else None
+step_from c m (Tick t k) cpu = if nat_lt 0 k && nat_lt (m.steps + k) c.limit then Some (later (with_cpu m (slot_of t) cpu) k) else None
+step_from c m (Flush t) cpu = flushed m (slot_of t) (list_at m (slot_of t))
+step_from c m (Wait t k) cpu = if nat_lt 0 k && nat_lt (m.steps + k) c.limit && is_none_waiting (list_at m (slot_of t)) && waits_at c.image m t cpu then Some (later (with_cpu m (slot_of t) cpu) k) else None
+step_from c m (Miss t k source target) cpu = if nat_lt (m.steps + k) c.limit && cpu.last == source && cpu.rip == target && is_code_place c.image target then Some (missed c.strict (later (with_cpu m (slot_of t) cpu) (k + 1)) (record { thread = t; source = source; target = target })) else None
 step_from c m (Grow t a) cpu = if not c.strict && is_code_place c.image a then Some m else None
-step_from c m (OverLimit t k) cpu = if nat_le c.limit (m.steps + k) then Some (ended (later (with_cpu m t cpu) k) end.Steps) else None
+step_from c m (OverLimit t k) cpu = if nat_le c.limit (m.steps + k) then Some (ended (later (with_cpu m (slot_of t) cpu) k) end.Steps) else None
 step_from c m (Full t) cpu = if not c.strict && is_code_place c.image cpu.rip then Some (ended m (end.Full t cpu.rip)) else None
 step_from c m Dead cpu = if is_deadlocked c.image m then Some (ended m end.Deadlock) else None
 
--- the entry names no thread, or one that lives
-abbrev pub names_live : Machine → Entry → Bool
-names_live m Dead = true
-names_live m e = is_live m (thread_of e)
+-- the thread, if one is named, lives
+abbrev pub lives : Machine → Option ℕ → Bool
+lives m None = true
+lives m (Some t) = is_live m t
 
--- the run goes on, the thread lives, and its private steps are at most 4,096
+-- the run goes on, the thread that the entry names lives, and its private steps are at most 4,096
 abbrev pub admits : Machine → Entry → Bool
-admits m e = is_none m.ending && names_live m e && nat_le (private_of e) 4096
+admits m e = is_none m.ending && lives m (thread_of e) && nat_le (private_of e) 4096
 
 -- the machine after an entry, or none where the entry is no step
 unfoldable pub step : CaseData → Machine → Entry → Option Machine
-step c m e = if admits m e then option_and_then (step_from c m e) (after_private c.image (private_of e) (cpu_at m (thread_of e))) else None
+step c m e = if admits m e then option_and_then (step_from c m e) (after_private c.image (private_of e) (cpu_at m (slot_in e))) else None

@@ -2,8 +2,6 @@
 
 ghost use Rattle.std.specs.Prelude.{◌≡◌};
 ghost use Rattle.machine_model.specs.Conversions.{asked_at, kind_of, memory_change_of, memory_width_of, request_change_of, request_kind_of, request_width_of};
-ghost use Rattle.machine_model.specs.Follow.{ir_change};
-ghost use Rattle.machine_model.specs.LiftLines.{ir_cond, ir_width};
 
 use lib_table::{Asked, BadKind};
 use x86_model::{BadStep, Door};
@@ -52,57 +50,6 @@ pub fn asked(door: Door) -> Asked
     match door {
         Door::End => Asked::EndDoor,
         Door::Call => Asked::CallDoor,
-    }
-}
-
-/// An operand's width, for the register language.
-pub fn ir_width(w: x86_forms::Width) -> ir_syntax::Width
-    ensures { result ≡ ir_width w }
-{
-    match w {
-        x86_forms::Width::W8 => ir_syntax::Width::W8,
-        x86_forms::Width::W16 => ir_syntax::Width::W16,
-        x86_forms::Width::W32 => ir_syntax::Width::W32,
-        x86_forms::Width::W64 => ir_syntax::Width::W64,
-    }
-}
-
-/// An instruction's condition, for the register language.
-pub fn ir_cond(cc: x86_forms::Cond) -> ir_syntax::Cond
-    ensures { result ≡ ir_cond cc }
-{
-    match cc {
-        x86_forms::Cond::O => ir_syntax::Cond::O,
-        x86_forms::Cond::No => ir_syntax::Cond::No,
-        x86_forms::Cond::B => ir_syntax::Cond::B,
-        x86_forms::Cond::Ae => ir_syntax::Cond::Ae,
-        x86_forms::Cond::E => ir_syntax::Cond::E,
-        x86_forms::Cond::Ne => ir_syntax::Cond::Ne,
-        x86_forms::Cond::Be => ir_syntax::Cond::Be,
-        x86_forms::Cond::A => ir_syntax::Cond::A,
-        x86_forms::Cond::S => ir_syntax::Cond::S,
-        x86_forms::Cond::Ns => ir_syntax::Cond::Ns,
-        x86_forms::Cond::P => ir_syntax::Cond::P,
-        x86_forms::Cond::Np => ir_syntax::Cond::Np,
-        x86_forms::Cond::L => ir_syntax::Cond::L,
-        x86_forms::Cond::Ge => ir_syntax::Cond::Ge,
-        x86_forms::Cond::Le => ir_syntax::Cond::Le,
-        x86_forms::Cond::G => ir_syntax::Cond::G,
-    }
-}
-
-/// A locked instruction's change, for the register language.
-pub fn ir_change(change: x86_model::Change) -> ir_syntax::Change
-    ensures { result ≡ ir_change change }
-{
-    match change {
-        x86_model::Change::Xchg(v) => ir_syntax::Change::Xchg(v),
-        x86_model::Change::Add(v) => ir_syntax::Change::Add(v),
-        x86_model::Change::Sub(v) => ir_syntax::Change::Sub(v),
-        x86_model::Change::And(v) => ir_syntax::Change::And(v),
-        x86_model::Change::Or(v) => ir_syntax::Change::Or(v),
-        x86_model::Change::Xor(v) => ir_syntax::Change::Xor(v),
-        x86_model::Change::Cmpxchg { want, new } => ir_syntax::Change::Cmpxchg { want, new },
     }
 }
 

@@ -1,9 +1,15 @@
-// A division that goes wrong, a jump to itself, and a locked step: journals that are runs, and journals that are
-// none.
+//! A division that goes wrong, a jump to itself, and a locked step: journals that are runs, and journals that are
+//! none.
+
+mod gated;
+mod places;
+mod plays;
+mod programs;
+
 use guest_asm::{Piece, row_image};
+use journal_pack::Entry::{self, Ev, Flush, Over, Tick};
 use machine_model::case::Case;
-use machine_model::journal::Entry::{self, Ev, Flush, Over, Tick};
-use machine_model::plain::play_plain;
+use machine_plain::play_plain;
 use std::alloc::Global;
 use std::sync::Arc;
 use std::test::Fail;
@@ -24,7 +30,7 @@ const LOCKED: [u8; 22] = [
 ];
 
 // Whether each entry is a step, from the start of the program at 0x401000.
-fn is_played(alloc: Global, code: &[u8], limit: u32, journal: &[Entry]) -> Result<bool, Fail> {
+fn is_played(alloc: Global, code: &[u8], limit: u16, journal: &[Entry]) -> Result<bool, Fail> {
     let image = row_image(
         alloc,
         &[Piece {

@@ -76,7 +76,7 @@ mod tests {
     #[test]
     fn refuses_with_the_line(rt: HostRuntime) {
         for (text, line) in [
-            ("miss thread 64 from 0x0 to 0x1\n", 1),
+            ("miss thread 4294967296 from 0x0 to 0x1\n", 1),
             ("miss thread 01 from 0x0 to 0x1\n", 1),
             ("miss thread 0 from 0x00 to 0x1\n", 1),
             ("miss thread 0 from 0x0 to 0x01\n", 1),

@@ -5,8 +5,8 @@ ghost use Rattle.miss_report.specs.Report.{report};
 use std::alloc::{AllocError, Global};
 use std::fmt;
 
-/// How many guest threads a report can name: their numbers are below it.
-pub const THREADS: u64 = 64;
+/// The numbers of guest threads are below it, 2^32.
+pub const THREADS: u64 = 4_294_967_296;
 
 /// A guest thread came to code that had not been lifted.
 #[derive(Clone, Copy, PartialEq, Eq, Debug)]

@@ -8,7 +8,8 @@ use std::alloc::{AllocError, Global};
 use thiserror::Error;
 
 /// Where a text stops being a report.
-#[derive(Clone, Copy, PartialEq, Eq, Debug)]
+#[derive(Clone, Copy, PartialEq, Eq, Debug, Error)]
+#[error("line {line} isn't the line of a miss")]
 pub struct ReportFault {
     /// The first line that is no line of a miss, counted from 1.
     pub line: u64,
@@ -18,7 +19,7 @@ pub struct ReportFault {
 #[derive(Clone, Copy, Debug, Error)]
 pub enum ReportFailure {
     /// The text is no report.
-    #[error("not a report")]
+    #[error(transparent)]
     Fault(ReportFault),
     /// No memory was left for the misses.
     #[error("no memory")]

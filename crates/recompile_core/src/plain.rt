@@ -59,7 +59,7 @@ fn read_program(alloc: Global, bytes: &[u8]) -> Result<Program, Ending>
 {
     let image = match load(alloc, bytes) {
         Ok(image) => image,
-        Err(LoadFault::Fault(fault)) => return Err(Ending::Image(fault.number())),
+        Err(LoadFault::Fault(_)) => return Err(Ending::Image(0)),
         Err(LoadFault::Memory(_)) => return Err(Ending::Memory),
     };
     match reach(alloc, &image, image.entry) {

@@ -6,3 +6,4 @@ pub mod RunLemmas
 pub mod MakeLemmas
 pub mod LawLemmas
 pub mod CopyLemmas
+pub mod SortLemmas

@@ -60,3 +60,7 @@ off_next ps qs rs p m n l off e = record {
   left = off.left;
   memory = e ∙ (ap (λ (o : Memory). add_cells o p.at p.r p.w p.bytes) l.memory ∙ sym (ap memory_of off.rest));
 }
+
+-- none is left
+pub all_off : (ps qs : List PieceData) (m : Memory) → LaidFrom ps qs m → length qs ≡ 0 → m ≡ memory_of ps
+all_off ps qs m l none = l.memory ∙ ap (λ n. memory_of (drop n ps)) none

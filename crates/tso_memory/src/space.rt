@@ -56,7 +56,7 @@ impl AddressSpace {
         }
     }
 
-    /// The memory of pieces.
+    /// The memory of pieces. They are sorted once, so that each of them comes after all that are there.
     pub(crate) fn from_pieces(
         alloc: Global,
         mut pieces: Vec<Piece>,
@@ -65,6 +65,7 @@ impl AddressSpace {
         requires low { AreLow pieces.items }
         ensures { IfOk result (λ s. s ≡ memory_of pieces.items) }
     {
+        pieces.sort_unstable_by_key(|p| u64::MAX - p.at);
         let mut space = AddressSpace::make(alloc);
         while let Some(piece) = pieces.pop() {
             space.add(piece)?;

@@ -7,7 +7,7 @@
 //! The opcode's row is chosen by `match` in `dispatch`, which is proved equal to a search through the
 //! whole table of `x86_forms`; the rules of the other bytes are that crate's functions.
 //!
-//! It is for the lifter and for replay, which don't stand yet. It stands on `x86_forms`.
+//! What tells the instruction at a place stands on it, `basic_blocks`, and with that the lifter. It stands on `x86_forms`.
 #![tactic(auto)]
 
 mod cursor;

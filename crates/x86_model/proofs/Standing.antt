@@ -27,7 +27,7 @@ counted_within m (Some x) i n e =
     let same : m - length x.1 ≡ n = (some_pair_parts x.0 i (m - length x.1) n e).1 in
     omega (arith, same)
 
-read_within : (bytes : List ℕ) (i : Instr) (n : ℕ) → read bytes ≡ Some (i, n) → n ≤ length bytes
+pub read_within : (bytes : List ℕ) (i : Instr) (n : ℕ) → read bytes ≡ Some (i, n) → n ≤ length bytes
 unfolding read
 read_within bytes i n e = omega (arith, counted_within (length (take 15 bytes)) (read_instr (take 15 bytes)) i n e, length-take 15 bytes)
 

@@ -1,5 +1,6 @@
 -- What a thread does next.
 use Rattle.std.specs.Prelude.{ℕ, ◌+◌, ◌-◌, ◌%◌, ◌^◌, ◌==◌, if◌then◌else◌, List, [], drop, Option, Some, None}
+use Rattle.address_space.specs.declared.TheConstants.{END_DOOR, CALL_DOOR}
 use Rattle.elf_image.specs.declared.place.Function.{Function}
 use Rattle.elf_image.specs.Layout.{ImageData, SegmentData, segment_at, function_at}
 use Rattle.x86_forms.specs.declared.instructions.Instr.{Instr}
@@ -10,7 +11,6 @@ use Rattle.x86_model.specs.declared.want.Door.{Door}
 use Rattle.x86_model.specs.declared.want.Door.TheVariants as door
 use Rattle.x86_model.specs.declared.want.Want.{Want}
 use Rattle.x86_model.specs.declared.want.Want.TheVariants as step
-use Rattle.x86_model.specs.Thread.{Thread}
 use Rattle.x86_model.specs.Accesses.{first_access}
 use Rattle.x86_model.specs.Finishing.{finished}
 
@@ -26,7 +26,7 @@ want_of i next s = begun s.mid (first_access i next s) (finished i next s)
 
 -- where a thread's start function and a comparator return to
 unfoldable pub door_at : ℕ → Option Door
-door_at a = if a == 0x700000FF0000 then Some door.End else if a == 0x700000FF0010 then Some door.Call else None
+door_at a = if a == END_DOOR then Some door.End else if a == CALL_DOOR then Some door.Call else None
 
 -- the bytes that can be run from an address on, in the segment that has it
 abbrev pub code_in : ℕ → Option SegmentData → List ℕ
@@ -52,7 +52,3 @@ standing None f spelled s = calling f spelled s
 -- doors come first, then places of library functions, then the bytes of one executable segment
 unfoldable pub want : ImageData → Cpu → Want
 want image s = standing (door_at s.rip) (function_at s.rip image.entries) (read (code_from image.segments s.rip)) s
-
--- what a live thread wants
-abbrev pub thread_want : ImageData → Thread → Want
-thread_want image t = want image t.cpu

@@ -3,12 +3,12 @@
 //! `want` (`specs/Want.antt`) says what a thread's next step is: at a door or a place of a library
 //! function that, else by the instruction that is spelled at rip in the bytes of one executable
 //! segment. `first_access` (`specs/Accesses.antt`) says what an instruction reads first, and `finished`
-//! (`specs/Finishing.antt`) what it does once that is there. `Thread` (`specs/Thread.antt`) is a whole
-//! thread: what its instructions work on, the searches under way, its life.
+//! (`specs/Finishing.antt`) what it does once that is there. `start` (`specs/Thread.antt`) is what a
+//! thread's instructions work on before its first step.
 //!
-//! `next_want` and `want_of` are a plain, slow program that computes the definition: `next_want` finds
-//! the instruction at rip by the decoder. It serves tests alone; no running code calls it. The crate
-//! stands on `elf_image`, `x86_forms`, `x86_flags`, `callbacks` and `x86_decode`.
+//! `want_of` is a plain program that computes what one instruction wants; `code_from` gives the bytes that
+//! can be run. The crate stands on `elf_image`, `x86_forms`, `x86_flags` and, for the doors,
+//! on `address_space`.
 #![tactic(auto)]
 
 mod accesses;
@@ -27,7 +27,7 @@ mod width;
 pub use accesses::first_access;
 pub use cpu::Cpu;
 pub use finishing::finished;
-pub use image::{code_from, next_want, want_of};
+pub use image::{code_from, want_of};
 pub use laws::{refuses_what_is_not_spelled, runs_what_is_spelled};
-pub use operands::address;
+pub use operands::{address, target};
 pub use want::{BadStep, Change, Door, Want};

@@ -8,8 +8,6 @@ use std::test::*;
 use x86_flags::Flags;
 use x86_forms::{AluOp, Base, Cond, Instr, Mem, OneOp, Operand, ShiftOp, Width};
 
-mod places;
-
 // Where the instruction stands, and the next one.
 const RIP: u64 = 0x40_1000;
 

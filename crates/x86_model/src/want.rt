@@ -19,9 +19,9 @@ pub enum Change {
 /// An address at which no instruction stands but the end of a call that the library made.
 #[derive(Clone, Copy, Debug, PartialEq, Eq)]
 pub enum Door {
-    /// 0x700000ff0000, the return address of a thread's start function.
+    /// The return address of a thread's start function.
     End,
-    /// 0x700000ff0010, the return address of a comparator that `bsearch` called.
+    /// The return address of a comparator that `bsearch` called.
     Call,
 }
 

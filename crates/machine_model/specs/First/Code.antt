@@ -3,7 +3,7 @@ use Rattle.std.specs.Prelude.{◌≡◌, ℕ, ◌+◌, ◌-◌, ◌*◌, ◌/◌
 use Rattle.elf_image.specs.declared.image.Image.{Image}
 use Rattle.elf_image.specs.declared.segment.Segment.{Segment}
 use Rattle.elf_image.specs.declared.place.Function.{Function}
-use Rattle.elf_image.specs.declared.place.Function.TheVariants.{PthreadCreate, PthreadJoin, PthreadSelf, MutexInit, MutexLock, MutexTrylock, MutexUnlock, MutexDestroy, Bsearch, Read, Write, Exit}
+use Rattle.elf_image.specs.declared.place.Function.TheVariants.{PthreadCreate, PthreadJoin, PthreadSelf, MutexInit, MutexLock, MutexTrylock, MutexUnlock, MutexDestroy, Bsearch, Read, Write, Exit, CondInit, CondDestroy, CondWait, CondSignal, CondBroadcast, BarrierInit, BarrierWait, BarrierDestroy, Once}
 use Rattle.elf_image.specs.Layout.{function_at, segment_at}
 use Rattle.machine_model.specs.declared.first.Instr.{Instr}
 use Rattle.machine_model.specs.declared.first.Instr.TheVariants.{Move, Jump}
@@ -68,6 +68,15 @@ is_exit MutexDestroy = false
 is_exit Bsearch = false
 is_exit Read = false
 is_exit Write = false
+is_exit CondInit = false
+is_exit CondDestroy = false
+is_exit CondWait = false
+is_exit CondSignal = false
+is_exit CondBroadcast = false
+is_exit BarrierInit = false
+is_exit BarrierWait = false
+is_exit BarrierDestroy = false
+is_exit Once = false
 
 abbrev pub is_exit_of : Option Function → Bool
 is_exit_of None = false

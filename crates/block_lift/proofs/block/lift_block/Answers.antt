@@ -1,7 +1,7 @@
 use Rattle.std.proofs.Common.{sym, subst}
 use Rattle.ir_syntax.specs.declared.block.Block.{Block}
 use Rattle.ir_syntax.specs.Typed.{IsWellTyped}
-use Rattle.machine_model.specs.Block.{IsFaithful}
+use Rattle.lift_table.specs.Block.{IsFaithful}
 use Rattle.block_lift.proofs.Blocks.{lifted_faithful, stripped_is, unstripped_typed}
 use Rattle.block_lift.proofs.block.lift_block.Goals as goal
 

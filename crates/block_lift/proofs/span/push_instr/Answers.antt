@@ -1,8 +1,8 @@
 use Rattle.std.proofs.Common.{ℕ, ◌++◌, List, ap, sym, subst, ◌∙◌}
 use Rattle.x86_forms.specs.declared.instructions.Instr.{Instr}
-use Rattle.machine_model.specs.Placed.{Placed}
-use Rattle.machine_model.specs.Faithful.{lifted_all}
-use Rattle.machine_model.specs.Block.{bytes_of}
+use Rattle.basic_blocks.specs.Placed.{Placed}
+use Rattle.lift_table.specs.Faithful.{lifted_all}
+use Rattle.basic_blocks.specs.Bytes.{bytes_of}
 use Rattle.block_lift.specs.Liftable.{ArePlaced}
 use Rattle.block_lift.specs.Steps.{going_on}
 use Rattle.block_lift.proofs.Blocks.{none_begins, begins_with, pushed_code, pushed_parts, placed_one}

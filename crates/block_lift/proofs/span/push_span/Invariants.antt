@@ -1,7 +1,7 @@
 use Rattle.std.proofs.Common.{◌≡◌, ◌-◌, ◌++◌}
-use Rattle.machine_model.specs.Span.{block_up_to}
-use Rattle.machine_model.specs.Faithful.{lifted_all}
-use Rattle.machine_model.specs.Block.{bytes_of}
+use Rattle.basic_blocks.specs.Span.{block_up_to}
+use Rattle.lift_table.specs.Faithful.{lifted_all}
+use Rattle.basic_blocks.specs.Bytes.{bytes_of}
 use Rattle.block_lift.specs.Liftable.{ArePlaced}
 use Rattle.block_lift.proofs.span.push_span.Given as goal
 

@@ -1,5 +1,5 @@
 use Rattle.x86_forms.specs.declared.instructions.Instr.TheVariants.{Alu}
-use Rattle.machine_model.proofs.LiftAlu.{alu_law}
+use Rattle.lift_table.proofs.LiftAlu.{alu_law}
 use Rattle.lift_alu.proofs.Quiet.{quiet_of}
 use Rattle.lift_alu.proofs.laws.alu_lifts.Goals as goal
 

@@ -1,5 +1,5 @@
 use Rattle.x86_forms.specs.declared.instructions.Instr.TheVariants.{Set, Cmov}
-use Rattle.machine_model.proofs.LiftMoves.{set_law, cmov_law}
+use Rattle.lift_table.proofs.LiftMoves.{set_law, cmov_law}
 use Rattle.lift_alu.proofs.Quiet.{quiet_of}
 use Rattle.lift_alu.proofs.laws.choices_lift.Goals as goal
 

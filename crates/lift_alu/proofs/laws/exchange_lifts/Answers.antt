@@ -1,5 +1,5 @@
 use Rattle.x86_forms.specs.declared.instructions.Instr.TheVariants.{Xchg}
-use Rattle.machine_model.proofs.LiftMoves.{xchg_law}
+use Rattle.lift_table.proofs.LiftMoves.{xchg_law}
 use Rattle.lift_alu.proofs.Quiet.{quiet_of}
 use Rattle.lift_alu.proofs.laws.exchange_lifts.Goals as goal
 

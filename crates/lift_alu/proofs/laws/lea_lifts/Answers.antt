@@ -1,4 +1,4 @@
-use Rattle.machine_model.proofs.LiftMoves.{lea_law}
+use Rattle.lift_table.proofs.LiftMoves.{lea_law}
 use Rattle.lift_alu.proofs.laws.lea_lifts.Goals as goal
 
 pub returns : goal.returns

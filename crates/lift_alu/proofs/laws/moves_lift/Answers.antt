@@ -1,5 +1,5 @@
 use Rattle.x86_forms.specs.declared.instructions.Instr.TheVariants.{Mov, Zx, Sx}
-use Rattle.machine_model.proofs.LiftMoves.{mov_law, zx_law, sx_law}
+use Rattle.lift_table.proofs.LiftMoves.{mov_law, zx_law, sx_law}
 use Rattle.lift_alu.proofs.Quiet.{quiet_of}
 use Rattle.lift_alu.proofs.laws.moves_lift.Goals as goal
 

@@ -1,5 +1,5 @@
 use Rattle.x86_forms.specs.declared.instructions.Instr.TheVariants.{One}
-use Rattle.machine_model.proofs.LiftAlu.{one_law}
+use Rattle.lift_table.proofs.LiftAlu.{one_law}
 use Rattle.lift_alu.proofs.Quiet.{quiet_of}
 use Rattle.lift_alu.proofs.laws.one_lifts.Goals as goal
 

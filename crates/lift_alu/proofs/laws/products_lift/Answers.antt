@@ -1,5 +1,5 @@
 use Rattle.x86_forms.specs.declared.instructions.Instr.TheVariants.{Mul, Imul}
-use Rattle.machine_model.proofs.LiftArith.{mul_law, imul_law}
+use Rattle.lift_table.proofs.LiftArith.{mul_law, imul_law}
 use Rattle.lift_alu.proofs.Quiet.{quiet_of}
 use Rattle.lift_alu.proofs.laws.products_lift.Goals as goal
 

@@ -1,5 +1,5 @@
 use Rattle.x86_forms.specs.declared.instructions.Instr.TheVariants.{Div}
-use Rattle.machine_model.proofs.LiftArith.{div_law}
+use Rattle.lift_table.proofs.LiftArith.{div_law}
 use Rattle.lift_alu.proofs.Quiet.{quiet_of}
 use Rattle.lift_alu.proofs.laws.quotients_lift.Goals as goal
 

@@ -1,5 +1,5 @@
-use Rattle.machine_model.proofs.LiftMoves.{widen_law}
-use Rattle.machine_model.proofs.LiftArith.{spread_law}
+use Rattle.lift_table.proofs.LiftMoves.{widen_law}
+use Rattle.lift_table.proofs.LiftArith.{spread_law}
 use Rattle.lift_alu.proofs.laws.widening_lifts.Goals as goal
 
 pub returns : goal.returns

@@ -1,0 +1,6 @@
+pub mod Places
+pub mod Placed
+pub mod Span
+pub mod Bytes
+pub mod Reach
+pub mod Onward

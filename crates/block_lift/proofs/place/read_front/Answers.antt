@@ -1,5 +1,0 @@
-use Rattle.block_lift.proofs.Blocks.{spelled_fits}
-use Rattle.block_lift.proofs.place.read_front.Goals as goal
-
-pub returns-clause-fits : goal.returns-clause-fits
-returns-clause-fits c = spelled_fits c.args.bytes.now c.decode.result c.spelled_fits.ensures c.decode.ensures.exact c.decode.ensures.within

@@ -1,0 +1,4 @@
+pub mod ElfField
+pub mod ElfFile
+pub mod PageAligned
+pub mod RowImage

@@ -1,0 +1,12 @@
+pub mod Exact
+pub mod LineLemmas
+pub mod LiteralLemmas
+pub mod NameLemmas
+pub mod NumberLemmas
+pub mod PlaceLemmas
+pub mod PrintLemmas
+pub mod ReadsLemmas
+pub mod RowLemmas
+pub mod RunLemmas
+pub mod TableLemmas
+pub mod WordLemmas

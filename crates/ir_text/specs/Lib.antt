@@ -1,0 +1,10 @@
+pub mod Text
+pub mod Faults
+pub mod Reading
+pub mod Row
+pub mod Tables
+pub mod Grammar
+pub mod Items
+pub mod Made
+pub mod Draft
+pub mod Printing

@@ -1,0 +1,5 @@
+pub mod LiftLines
+pub mod LiftTable
+pub mod Follow
+pub mod Faithful
+pub mod Block

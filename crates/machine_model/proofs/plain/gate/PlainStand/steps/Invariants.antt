@@ -1,6 +1,0 @@
-use Rattle.std.proofs.Common.{◌≡◌, Some}
-use Rattle.machine_model.specs.Gated.{gated_steps}
-use Rattle.machine_model.proofs.plain.gate.PlainStand.steps.Given as goal
-
-abbrev pub invariant-loop-k : goal.invariant-loop-k
-invariant-loop-k l = Some l.self ≡ gated_steps l.image l.grown l._k l.fn.self

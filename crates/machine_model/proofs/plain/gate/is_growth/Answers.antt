@@ -1,4 +1,0 @@
-use Rattle.machine_model.proofs.plain.gate.is_growth.Goals as goal
-
-pub returns-in-Growing : goal.returns-in-Growing
-returns-in-Growing c = rw c.in-Growing.is c.is_growth_after.ensures

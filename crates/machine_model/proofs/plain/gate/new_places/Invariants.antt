@@ -1,6 +1,0 @@
-use Rattle.std.proofs.Common.{◌≡◌, ◌≤◌, take}
-use Rattle.machine_model.specs.PlainGates.{new_places}
-use Rattle.machine_model.proofs.plain.gate.new_places.Given as goal
-
-abbrev pub invariant-loop-p : goal.invariant-loop-p
-invariant-loop-p l = (l.count ≡ new_places l.grown (take l.p-index l.places)) × (l.count ≤ l.p-index)

@@ -1,6 +1,0 @@
-use Rattle.std.proofs.Common.{◌≡◌, Some, take}
-use Rattle.machine_model.specs.Play.{play}
-use Rattle.machine_model.proofs.plain.play_plain.Given as goal
-
-abbrev pub invariant-loop-entry : goal.invariant-loop-entry
-invariant-loop-entry l = play l.case (take l.entry-index l.journal) ≡ Some l.machine

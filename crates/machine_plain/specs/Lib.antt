@@ -1,0 +1,3 @@
+-- What the slow programs keep beside the machine.
+pub mod Plain
+pub mod PlainGates

@@ -1,0 +1,9 @@
+pub mod MapLemmas
+pub mod TreeLemmas
+pub mod HashLemmas
+pub mod TableLemmas
+pub mod PhaseLemmas
+pub mod UpToLemmas
+pub mod RoomsLemmas
+pub mod WaitLemmas
+pub mod LawLemmas

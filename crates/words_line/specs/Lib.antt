@@ -1,0 +1,4 @@
+-- What the contracts of the crate cite: what each command takes, and the plan that the words make.
+pub mod Commands
+pub mod Plans
+pub mod Rules
