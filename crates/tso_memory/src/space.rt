@@ -35,9 +35,10 @@ impl Model for AddressSpace {
 }
 
 /// The number in the first bytes, the lowest first.
-fn word(bytes: &[u8], width: Width) -> u64
+pub(crate) fn word(bytes: &[u8], width: Width) -> u64
     requires { size_of width ≤ length bytes.now }
-    ensures { result ≡ little_number (size_of width) bytes.now }
+    ensures number { result ≡ little_number (size_of width) bytes.now }
+    ensures fits { result < 256 ^ size_of width }
 {
     match width {
         Width::W8 => bytes[0] as u64,
@@ -141,19 +142,21 @@ impl AddressSpace {
     /// The number from an address on, whatever the rights.
     pub(crate) fn number(&self, a: u64, width: Width) -> u64
         requires { a + size_of width ≤ 2 ^ 64 }
-        ensures { result ≡ number_from (byte_of self.now) (size_of width) a }
+        ensures number { result ≡ number_from (byte_of self.now) (size_of width) a }
+        ensures fits { result < 256 ^ size_of width }
     {
         let size = width.size();
         if let Some((i, place)) = find_run(&self.pieces, a, size) {
             let piece = &self.pieces[i];
             return word(&piece.bytes[place..], width);
         }
-        LittleEndian::read_uint(&self.bytes(a, size), size)
+        word(&self.bytes(a, size), width)
     }
 
     /// The number from an address on, where each of its bytes may be read.
     pub(crate) fn read(&self, a: u64, width: Width) -> Result<u64, Denied>
         ensures value { IfOk result (λ v. v ≡ number_from (byte_of self.now) (size_of width) a) }
+        ensures fits { IfOk result (λ v. v < 256 ^ size_of width) }
         ensures rights { refusal result ≡ first_denied (may self.now Load) a (size_of width) }
     {
         let size = width.size();

@@ -11,9 +11,8 @@ use crate::access::{Access, Denied};
 use crate::buffer::StoreBuffer;
 use crate::change::Change;
 use crate::piece::Piece;
-use crate::space::AddressSpace;
+use crate::space::{AddressSpace, word};
 use crate::write::{PendingWrite, Width};
-use byteorder::{ByteOrder, LittleEndian};
 use std::alloc::{AllocError, Global};
 use std::marker::Model;
 
@@ -51,14 +50,15 @@ impl Model for Tso {
 /// The number from an address on as the owner of a buffer sees it.
 fn number_seen(space: &AddressSpace, buffer: &StoreBuffer, a: u64, width: Width) -> u64
     requires { a + size_of width ≤ 2 ^ 64 }
-    ensures { result ≡ number_from (λ x. seen buffer.now x (byte_of space.now x)) (size_of width) a }
+    ensures number { result ≡ number_from (λ x. seen buffer.now x (byte_of space.now x)) (size_of width) a }
+    ensures fits { result < 256 ^ size_of width }
 {
     let size = width.size();
     let mut bytes = space.bytes(a, size);
     for k in 0..size {
         bytes[k] = buffer.seen(a + k as u64, bytes[k]);
     }
-    LittleEndian::read_uint(&bytes, size)
+    word(&bytes, width)
 }
 
 /// A buffer for each thread.
@@ -90,6 +90,7 @@ impl Tso {
     pub fn load(&self, t: u32, a: u64, width: Width) -> Result<u64, Denied>
         requires { t < 64 }
         ensures value { IfOk result (λ v. v ≡ number_from (seen_by self.now t) (size_of width) a) }
+        ensures fits { IfOk result (λ v. v < 256 ^ size_of width) }
         ensures rights { refusal result ≡ first_denied (may self.now.memory Load) a (size_of width) }
     {
         let buffer = &self.buffers[t as usize];
@@ -163,6 +164,7 @@ impl Tso {
     ) -> Result<u64, Denied>
         requires { t < 64 }
         ensures value { IfOk result (λ v. v ≡ memory_number self.old (size_of width) a) }
+        ensures fits { IfOk result (λ v. v < 256 ^ size_of width) }
         ensures rights { refusal result ≡ first_denied (may self.old.memory Locked) a (size_of width) }
         ensures exchanged { OnOk result (self.new ≡ exchanged self.old (size_of width) a change) }
         ensures refused { OnErr result (self.new ≡ self.old) }

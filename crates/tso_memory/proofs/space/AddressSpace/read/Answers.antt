@@ -13,7 +13,7 @@ returns-then-piece-clause-value c =
     let n = size_of c.args.width in
     let run = run_is c.deref.result.now ps c.args.self.now p c.args.a c.size-size.result c.in-Some.i c.in-Some.place c.deref.ensures.value c.self.view_is c.self.invariant c.index-piece.ensures c.in-Some.ensures in
     let bytes : c.deref-then-piece.result.now ≡ p.bytes = c.deref-then-piece.ensures.value ∙ ap (λ (q : PieceData). q.bytes) c.piece.view_is in
-    c.word.ensures
+    c.word.ensures.number
     ∙ (ap (little_number n) (take_rest c.deref-then-piece.result.now c.in-Some.place ∙ ap (λ (xs : List ℕ). drop c.in-Some.place xs) bytes)
     ∙ sym (run_number ps c.args.self.now p c.args.a n c.in-Some.i c.in-Some.place (subst (λ (z : ℕ). IsRun ps c.args.self.now p c.args.a z c.in-Some.i c.in-Some.place) c.size-size.ensures run)))
 
