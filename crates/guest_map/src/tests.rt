@@ -1,6 +1,7 @@
 //! Worked rows.
 
-use crate::{LayFault, Start, lay_out, top};
+use crate::{LayFault, Start, lay_out};
+use address_space::stack_top;
 use elf_image::{Image, load};
 use std::alloc::{AllocError, Global};
 use std::test::Fail;
@@ -95,7 +96,7 @@ fn a_process_is_entered_with_its_arguments(rt: HostRuntime) -> Result<(), Fail> 
 fn each_thread_has_a_stack_beside_the_segments(rt: HostRuntime) -> Result<(), Fail> {
     let memory = start(rt.alloc(), &["p1"])?.ok_or("it begins")?.memory;
     for t in 0..64 {
-        let end = top(t);
+        let end = stack_top(t);
         assert_eq!(rt; memory.check(end - 0x1_0000, 0x1_0000, true), Ok(()));
         assert_eq!(rt;
             memory.check(end - 0x1_0001, 1, false),

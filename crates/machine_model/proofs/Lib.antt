@@ -31,3 +31,4 @@ pub mod NamesTurns
 pub mod NamesRounds
 pub mod NamesDead
 pub mod Prefixes
+pub mod Slots

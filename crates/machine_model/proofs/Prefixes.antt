@@ -66,7 +66,7 @@ absent : (b : Bool) → (b ≡ true → ⊥) → b ≡ false
 absent true f = absurd (f refl)
 absent false f = refl
 
-rising : (xs : List ℕ) → IsStrictlySortedBy nat_cmp xs → HasNoRepeats xs
+pub rising : (xs : List ℕ) → IsStrictlySortedBy nat_cmp xs → HasNoRepeats xs
 rising [] s = tt
 rising (x ∷ xs) s = (absent (is_among xs x) (λ m. let lt : x < x = sorted_below x x xs (All-after_first nat_cmp x xs s) m in omega arith), rising xs (sorted_tail nat_cmp x xs s))
 

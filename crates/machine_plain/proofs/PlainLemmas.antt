@@ -34,16 +34,6 @@ use Rattle.machine_model.specs.State.{Core, Machine, entering, no_core, slots, s
 use Rattle.journal_pack.specs.Entry.{private_of, thread_of}
 use Rattle.machine_model.specs.Step.{admits, after_private, ask_of, cpu_at, is_in_use, lives, newborn, privately, slot_in, step, step_from, frames_before}
 
-number_runs : (u : ℕ) (life : Life) → is_some (live_number u life) ≡ is_running life
-number_runs u Unborn = refl
-number_runs u (Live a b) = refl
-number_runs u (Ended v) = refl
-number_runs u Joined = refl
-
--- a thread lives in a slot where the slot has a thread's number
-pub lives_in : (l : LibraryData) (s : ℕ) → is_some (thread_in l s) ≡ is_in_use l s
-lives_in l s = number_runs _ (slot_at l s).life
-
 pub as_many_slots : (l after : LibraryData) (m n : Memory) (t : ℕ) (ask : Ask) (called : Called) → length l.slots ≡ 64 → row l m t ask ≡ Done after n called → length after.slots ≡ 64
 as_many_slots l after m n t ask called sized e = (row_stays l after m n t 0 ask called sized e).count ∙ sized
 
@@ -71,23 +61,6 @@ range_more a n = rw (add-one n) (by_suc a n)
 
 pub mapped_more : (p : ℕ → Bool) (n : ℕ) → map p (range_with_len 0 (n + 1)) ≡ map p (range_with_len 0 n) ++ p n ∷ []
 mapped_more p n = ap (map p) (range_more 0 n) ∙ map-append p (range_with_len 0 n) ((0 + n) ∷ []) ∙ ap (λ x. map p (range_with_len 0 n) ++ p x ∷ []) (omega arith)
-
--- each number passes
-pub all_pass : (p : ℕ → Bool) (a n : ℕ) → ((u : ℕ) → a ≤ u → u < a + n → p u ≡ true) → list_all p (range_with_len a n) ≡ true
-all_pass p a zero h = refl
-all_pass p a (suc n) h = rw (h a (omega arith) (omega arith), all_pass p (a + 1) n (λ u le lt. h u (omega arith) (omega arith))) refl
-
--- one doesn't
-pub one_fails : (p : ℕ → Bool) (a n u : ℕ) → a ≤ u → u < a + n → p u ≡ false → list_all p (range_with_len a n) ≡ false
-one_fails p a zero u le lt h = absurd (omega arith)
-one_fails p a (suc n) u le lt h =
-    elim (p a) as (λ b. p a ≡ b → (b && list_all p (range_with_len (a + 1) n)) ≡ false) [
-      | false ↦ λ e. refl
-      | true ↦ λ e. one_fails p (a + 1) n u (later a u le e h) (omega arith) h
-    ] refl
-  where
-    later : (a u : ℕ) → a ≤ u → p a ≡ true → p u ≡ false → a + 1 ≤ u
-    later a u le e h = grind arith
 
 -- the first that passes
 pub find_first : (p : ℕ → Bool) (a n u : ℕ) → a ≤ u → u < a + n → p u ≡ true → ((v : ℕ) → a ≤ v → v < u → p v ≡ false) → find p (range_with_len a n) ≡ Some u
@@ -162,26 +135,6 @@ still_none image n (suc more) cpu e = ap (λ x. after_private image x cpu) (by_s
 
 pub never_private : (image : ImageData) (n k : ℕ) (cpu at : Cpu) → after_private image n cpu ≡ Some at → privately (want image at) ≡ None → n < k → after_private image k cpu ≡ None
 never_private image n k cpu at e w lt = let z : k ≡ (k - suc n) + suc n = omega arith in ap (λ x. after_private image x cpu) z ∙ still_none image (suc n) (k - suc n) cpu (not_private image n cpu at e w)
-
--- ---- deadlock
-
-pub all_lists : (bs : List (List PendingWrite)) (n : ℕ) → length bs ≡ n → ((u : ℕ) → u < n → is_none_waiting (slice_index_or bs u []) ≡ true) → list_all is_none_waiting bs ≡ true
-all_lists [] n e h = refl
-all_lists (b ∷ bs) n e h = rw (h 0 (omega arith), all_lists bs (length bs) refl (λ u lt. h (suc u) (omega arith))) refl
-
-pub one_list : (bs : List (List PendingWrite)) (u : ℕ) → u < length bs → is_none_waiting (slice_index_or bs u []) ≡ false → list_all is_none_waiting bs ≡ false
-one_list [] u lt h = absurd (omega arith)
-one_list (b ∷ bs) zero lt h = rw h refl
-one_list (b ∷ bs) (suc u) lt h =
-    elim (is_none_waiting b) as (λ x. (x && list_all is_none_waiting bs) ≡ false) [ false ↦ refl | true ↦ one_list bs u (omega arith) h ]
-
-pub all_threads : (p : ℕ → Bool) → ((u : ℕ) → u < 64 → p u ≡ true) → list_all p slots ≡ true
-unfolding slots
-all_threads p h = all_pass p 0 64 (λ u _ lt. h u (omega arith))
-
-pub one_thread : (p : ℕ → Bool) (u : ℕ) → u < 64 → p u ≡ false → list_all p slots ≡ false
-unfolding slots
-one_thread p u lt h = one_fails p 0 64 u (omega arith) (omega arith) h
 
 -- ---- an entry
 

@@ -84,7 +84,7 @@ impl Model for PlainMachine {
 }
 
 // Whether a thread lives in a slot.
-#[tactic(auto, using(crate::proofs::PlainLemmas::lives_in))]
+#[tactic(auto, using(machine_model::proofs::Slots::lives_in))]
 pub(crate) fn is_in_use(library: &Library, slot: u32) -> bool
     ensures { result ≡ is_in_use library.now slot }
 {

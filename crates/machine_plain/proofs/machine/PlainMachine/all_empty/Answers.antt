@@ -1,5 +1,5 @@
 use Rattle.std.proofs.Common.{arith, sym}
-use Rattle.machine_plain.proofs.PlainLemmas.{all_lists}
+use Rattle.machine_model.proofs.Slots.{all_lists}
 use Rattle.machine_plain.proofs.machine.PlainMachine.all_empty.Goals as goal
 
 pub returns : goal.returns
