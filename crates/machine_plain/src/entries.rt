@@ -36,9 +36,9 @@ pub(crate) fn privately(want: Want) -> Option<Cpu>
     }
 }
 
-// The registers after `k` private steps, or none where one of them wouldn't be private.
 #[tactic(auto, using(crate::proofs::PlainLemmas::one_private, crate::proofs::PlainLemmas::never_private), unfolding(machine_model::specs::Step::after_private))]
-fn after_private(image: &Image, k: u32, cpu: Cpu) -> Option<Cpu>
+/// The registers after `k` private steps, or none where one of them wouldn't be private.
+pub fn after_private(image: &Image, k: u32, cpu: Cpu) -> Option<Cpu>
     ensures { result ≡ after_private image.now k cpu }
 {
     let mut at = cpu;

@@ -8,7 +8,7 @@ ghost use Rattle.journal_pack.specs.declared.entry.Entry.TheVariants as entry;
 
 use crate::entries::privately;
 use crate::machine::slot_in;
-use crate::reach::{has, reach};
+use crate::reach::{has, reach_plain};
 use crate::wants::next_want;
 use address_space::slot_of;
 use basic_blocks::{is_code_place, span};
@@ -153,7 +153,7 @@ fn is_within_reach(
 ) -> Result<bool, AllocError>
     ensures { IfOk result (λ b. IsTrue b ↔ IsWithinReach image.now grown.now g a) }
 {
-    let places = reach(alloc, image, g)?;
+    let places = reach_plain(alloc, image, g)?;
     if !has(&places, a) {
         return Ok(false);
     }

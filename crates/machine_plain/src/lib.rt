@@ -17,7 +17,9 @@ mod requests;
 mod wants;
 
 pub use cores::PlainCore;
+pub use entries::after_private;
 pub use gated::gated_plain;
 pub use machine::{PlainFault, PlainMachine};
 pub use play::play_plain;
+pub use reach::reach_plain;
 pub use wants::next_want;

@@ -84,7 +84,7 @@ fn in_order(alloc: Global, places: &[u64]) -> Result<Vec<u64>, AllocError>
 
 #[tactic(auto, using(crate::proofs::Closures::in_order_reach))]
 /// The places that are reached from a root, by rising address.
-pub(crate) fn reach(alloc: Global, image: &Image, root: u64) -> Result<Vec<u64>, AllocError>
+pub fn reach_plain(alloc: Global, image: &Image, root: u64) -> Result<Vec<u64>, AllocError>
     ensures { IfOk result (λ places. IsReach image.now (root ∷ []) places.items) }
 {
     let places = closure(alloc, image, root)?;

@@ -54,8 +54,8 @@ fn request(
 }
 
 impl PlainMachine {
-    // What thread `t` with these registers asks.
-    fn ask(&self, t: u32, cpu: Cpu, what: Asked) -> Ask
+    /// What thread `t` asks of the library with these registers.
+    pub fn ask(&self, t: u32, cpu: Cpu, what: Asked) -> Ask
         ensures { result ≡ ask_of (core_with self.now t cpu) what }
     {
         self.cores[slot_of(t) as usize].ask(cpu, what)

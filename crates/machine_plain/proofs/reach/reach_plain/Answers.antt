@@ -1,7 +1,7 @@
 use Rattle.std.proofs.Common.{◌∙◌, ap}
 use Rattle.basic_blocks.specs.Reach.{is_among}
 use Rattle.machine_plain.proofs.Closures.{in_order_reach}
-use Rattle.machine_plain.proofs.reach.reach.Goals as goal
+use Rattle.machine_plain.proofs.reach.reach_plain.Goals as goal
 
 pub returns : goal.returns
 returns c =
