@@ -13,15 +13,15 @@ use Rattle.elf_image.specs.Layout.{SegmentData, IsSegment, IsWithin, segment_at}
 -- what is found stands in the list, and passes
 pub found_where : {X : Type 0} (p : X → Bool) (xs : List X) (x : X) → find p xs ≡ Some x → Contains xs x × (p x ≡ true)
 found_where p [] x e = absurd (none-some x e)
-found_where {X} p (y ∷ ys) x e = by (p y) refl e
+found_where {X} p (y ∷ ys) x e = by (p y) refl e (λ later. found_where p ys x later)
   where
-    by : (b : Bool) → p y ≡ b → cond b (Some y) (find p ys) ≡ Some x → Contains (y ∷ ys) x × (p x ≡ true)
-    by true is found =
+    by : (b : Bool) → p y ≡ b → cond b (Some y) (find p ys) ≡ Some x → (find p ys ≡ Some x → Contains ys x × (p x ≡ true)) → Contains (y ∷ ys) x × (p x ≡ true)
+    by true is found rest =
         let same : y ≡ x = same_Some y x found in
         ((0, omega arith, same), subst (λ (z : X). p z ≡ true) same is)
-    by false is found =
-        let rest = found_where p ys x found in
-        ((suc rest.0.0, omega (arith, rest.0.1), rest.0.2), rest.1)
+    by false is found rest =
+        let there = rest found in
+        ((suc there.0.0, omega (arith, there.0.1), there.0.2), there.1)
 
 -- a segment that is found has the address
 pub segment_found : (a : ℕ) (segments : List SegmentData) (s : SegmentData) → Some s ≡ segment_at a segments → IsWithin a s
@@ -59,3 +59,6 @@ module _ {X : Type 0} (test : X → Bool) (xs : List X) where
       by : (b : Bool) → test (get_or xs k d) ≡ b → b ≡ false
       by true is = absurd (false≢true (sym none ∙ list_any_at test xs k d lt is))
       by false is = refl
+
+  pub position_is : (n : ℕ) → position test xs ≡ Some n → n ≡ position_or_len test xs
+  position_is n some = grind (arith, nat_tests, some)

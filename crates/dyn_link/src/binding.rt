@@ -72,6 +72,7 @@ fn symbol_record(image: &Image, symbols: u64, r: Relocation) -> Option<&[u8]>
     ensures found { option_map (λ b. b.now) result ≡ symbol_record image.now.segments symbols r }
     ensures len { IfSome result (λ b. length b.now ≡ 24) }
 {
+    image.facts();
     match symbols.checked_add(24 * r.symbol as u64) {
         Some(at) => run_at(image, at, 24),
         None => None,

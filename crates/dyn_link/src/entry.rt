@@ -33,8 +33,9 @@ pub(crate) fn add_functions(
     ensures { OnOk result (AreInOrder (entries.old.items ++ bound_places (map (λ p. p.binding) places.now)) entries.new.items) }
 {
     for p in places {
-        if let Some(function) = p.binding.function {
-            add_function(entries, function)?;
+        match p.binding.function {
+            Some(function) => add_function(entries, function)?,
+            None => {}
         }
     }
     Ok(())

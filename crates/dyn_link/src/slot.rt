@@ -95,7 +95,8 @@ fn held(function: Option<Function>) -> u64
 // Writes a number into eight bytes of the segment.
 fn write_number(segment: &mut Segment, place: usize, n: u64)
     requires { place + 8 ≤ segment.old.size }
-    ensures { segment.new ≡ with_number place n segment.old }
+    ensures number { segment.new ≡ with_number place n segment.old }
+    ensures whole { IsSegment segment.new }
 {
     LittleEndian::write_u64(&mut segment.bytes[place..], n);
 }
@@ -103,7 +104,8 @@ fn write_number(segment: &mut Segment, place: usize, n: u64)
 fn write_place(segments: &mut Vec<Segment>, p: Place)
     requires placed { IsPlaced segments.old.items p }
     requires apart { AllPairs IsApart segments.old.items }
-    ensures { segments.new.items ≡ map (written p.binding) segments.old.items }
+    ensures bound { segments.new.items ≡ map (written p.binding) segments.old.items }
+    ensures whole { All IsSegment segments.old.items → All IsSegment segments.new.items }
 {
     let segment = &mut segments[p.segment];
     let place = (p.binding.slot - segment.at) as usize;
