@@ -1,6 +1,6 @@
 -- What is found in a list, and where.
-use Rattle.std.proofs.Common.{◌≡◌, ℕ, zero, suc, ◌+◌, ◌-◌, ◌*◌, ◌^◌, ◌<◌, ◌≤◌, ◌&&◌, nat_lt, nat_le, cond, Bool, true, false, List, [], ◌∷◌, length, get_or, Option, Some, None, refl, sym, ap, subst, ◌∙◌, inl, inr, ⊎_elim, arith}
-use Rattle.std.specs.Prelude.{All, AllPairs, Contains, find}
+use Rattle.std.proofs.Common.{◌≡◌, ℕ, suc, ◌+◌, ◌^◌, ◌<◌, ◌≤◌, ◌&&◌, nat_lt, nat_le, cond, Bool, true, false, List, [], ◌∷◌, length, get_or, Some, None, refl, sym, subst, ◌∙◌, arith}
+use Rattle.std.specs.Prelude.{All, Contains, find}
 use Rattle.std.specs.List.{list_any, position, position_or_len}
 use mathlib.Core.Bool.{false≢true}
 use Rattle.std.proofs.lemmas.Bool.Decides.{nat_tests}
@@ -46,8 +46,8 @@ none_above a (s ∷ segments) full high =
 module _ {X : Type 0} (test : X → Bool) (xs : List X) where
   pub none_passes : position test xs ≡ None → list_any test xs ≡ false
   none_passes none = list_any_none test xs (λ k d lt.
-    let past : length xs ≤ position_or_len test xs = grind (arith, nat_tests, none) in
-    fails_before_first test xs k d (omega arith))
+      let past : length xs ≤ position_or_len test xs = grind (arith, nat_tests, none) in
+      fails_before_first test xs k d (omega arith))
 
   pub one_passes : (n : ℕ) → position test xs ≡ Some n → (d : X) → list_any test xs ≡ true
   one_passes n some d = let at = position-Some test xs n d some in list_any_at test xs n d at.0 at.1

@@ -1,6 +1,5 @@
 -- Names and where they end.
-use Rattle.std.proofs.Common.{◌≡◌, ◌≢◌, ℕ, ◌+◌, ◌-◌, ◌<◌, ◌≤◌, ◌==◌, nat_lt, Bool, true, false, List, length, get_or, drop, refl, sym, ap, ◌∙◌, inl, inr, arith, length-drop}
-use Rattle.std.specs.List.{list_any}
+use Rattle.std.proofs.Common.{◌≡◌, ◌≢◌, ℕ, ◌+◌, ◌-◌, ◌<◌, ◌≤◌, ◌==◌, nat_lt, true, false, List, length, get_or, drop, sym, ap, ◌∙◌, inl, inr, arith, length-drop}
 use Rattle.std.proofs.lemmas.Bool.{cases_lt}
 use Rattle.std.proofs.lemmas.Bool.Decides.{nat_tests}
 use Rattle.std.proofs.lemmas.List.{get_or-drop, get_or_default}
@@ -13,7 +12,7 @@ unfolding is_ended
 ended_before text end within last behind k = elim (cases_lt k end) [
   | inl lt ↦
       let zero_at : get_or (drop k text) (end - 1 - k) 0 ≡ 0 =
-          get_or-drop k text (end - 1 - k) 0 ∙ (ap (λ (n : ℕ). get_or text n 0) (let e : k + (end - 1 - k) ≡ end - 1 = omega arith in e) ∙ last (omega arith)) in
+      get_or-drop k text (end - 1 - k) 0 ∙ (ap (λ (n : ℕ). get_or text n 0) (let e : k + (end - 1 - k) ≡ end - 1 = omega arith in e) ∙ last (omega arith)) in
       let passes : (get_or (drop k text) (end - 1 - k) 0 == 0) ≡ true = grind (arith, nat_tests, zero_at) in
       let in_range : end - 1 - k < length (drop k text) = omega (arith, length-drop k text) in
       let before : nat_lt k end ≡ true = grind (arith, nat_tests) in

@@ -1,15 +1,15 @@
 -- Functions that are bound, among places that rise by address.
-use Rattle.std.proofs.Common.{◌≡◌, ◌≢◌, ℕ, suc, ◌+◌, ◌-◌, ◌*◌, ◌<◌, ◌≤◌, ◌&&◌, nat_lt, nat_le, Bool, true, false, List, [], ◌∷◌, ◌++◌, length, map, take, get_or, Option, Some, None, ◌⊎◌, Result, Ok, Err, refl, sym, ap, subst, ◌∙◌, inl, inr, ⊎_elim, arith, append_assoc}
+use Rattle.std.proofs.Common.{◌≡◌, ℕ, ◌+◌, ◌-◌, ◌<◌, ◌≤◌, true, false, List, [], ◌∷◌, ◌++◌, length, map, take, get_or, Option, Some, None, ◌⊎◌, Ok, Err, refl, sym, ap, subst, ◌∙◌, inl, inr, ⊎_elim, arith, append_assoc}
 use Rattle.std.specs.Prelude.{All, AllPairs, Contains}
 use mathlib.Core.Bool.{false≢true}
-use Rattle.std.specs.List.{filter_map, insert, cons_option}
-use Rattle.std.specs.List.Sorted.{IsBinarySearchResult, IsNonDecreasingBy, IsSearchInRange, IsPermutation}
+use Rattle.std.specs.List.{insert, cons_option}
+use Rattle.std.specs.List.Sorted.{IsBinarySearchResult, IsNonDecreasingBy}
 use Rattle.std.specs.Option.{option_map}
 use Rattle.std.specs.Ordering.{nat_cmp, ordering_index}
 use Rattle.std.proofs.lemmas.Cmp.{ranked}
 use Rattle.std.proofs.lemmas.Bool.{cases_lt, cases_eq}
 use Rattle.std.proofs.lemmas.Bool.Decides.{nat_tests}
-use Rattle.std.proofs.lemmas.List.{get_or_default, map_more, append-nil}
+use Rattle.std.proofs.lemmas.List.{map_more, append-nil}
 use Rattle.std.proofs.lemmas.List.Edits.{length-insert, get_or-insert_below, get_or-insert_at, get_or-insert_above}
 use Rattle.std.proofs.lemmas.List.Elements.{Contains-get_or, Contains-append_left, Contains-append_right, Contains-append_cases, Contains-push, Contains-push_cases, All-contains, All-nil, All-cons, filter_map-append}
 use Rattle.std.proofs.lemmas.List.Sorted.{IsPermutation-insert, Contains-permutation, IsPermutation-sym}
@@ -111,9 +111,9 @@ pub own_so_far : (first es : List LibPlace) (bs : List Binding) → HasNoneKept 
 own_so_far first es bs free order k d lt =
     let there = (order.same (get_or es k d)).0 (Contains-get_or es k d lt) in
     ⊎_elim
-        (λ old. own_free (get_or es k d) (All-contains (λ (p : LibPlace). is_kept Linked p.at ≡ false) first (get_or es k d) free old))
-        (λ new. All-contains IsOwn (bound_places bs) (get_or es k d) (own_bound bs) new)
-        (Contains-append_cases first (bound_places bs) (get_or es k d) there)
+    (λ old. own_free (get_or es k d) (All-contains (λ (p : LibPlace). is_kept Linked p.at ≡ false) first (get_or es k d) free old))
+    (λ new. All-contains IsOwn (bound_places bs) (get_or es k d) (own_bound bs) new)
+    (Contains-append_cases first (bound_places bs) (get_or es k d) there)
 
 -- ---- one more
 

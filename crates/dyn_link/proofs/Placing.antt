@@ -1,19 +1,18 @@
 -- The segment of a slot, by its number.
-use Rattle.std.proofs.Common.{◌≡◌, ◌≢◌, ℕ, ◌+◌, ◌<◌, ◌≤◌, ◌==◌, ◌||◌, ◌&&◌, not, nat_lt, nat_le, Bool, true, false, List, [], ◌∷◌, ◌++◌, length, map, take, get_or, Option, Some, None, refl, sym, ap, subst, ◌∙◌, inl, inr, arith, Bor}
-use Rattle.std.specs.Prelude.{All, AllPairs, Contains}
-use Rattle.std.specs.BTreeMap.{BTreeMap, get, get_by, is_at, Updates}
+use Rattle.std.proofs.Common.{◌≡◌, ◌≢◌, ℕ, ◌+◌, ◌<◌, ◌≤◌, ◌||◌, ◌&&◌, not, nat_le, Bool, true, false, List, length, get_or, Option, Some, None, refl, sym, ap, subst, ◌∙◌, inl, inr, arith, Bor}
+use Rattle.std.specs.Prelude.{All, AllPairs}
+use Rattle.std.specs.BTreeMap.{BTreeMap, get, is_at, Updates}
 use Rattle.std.specs.List.{list_any}
 use Rattle.std.specs.Option.{option_copied, IsSome}
-use Rattle.std.specs.Ordering.{nat_cmp, is_eq}
+use Rattle.std.specs.Ordering.{nat_cmp}
 use mathlib.Core.Bool.{false≢true}
 use Rattle.std.proofs.lemmas.Bool.{cases_lt}
 use Rattle.std.proofs.lemmas.Bool.Decides.{nat_tests}
-use Rattle.std.proofs.lemmas.List.{get_or_default, map_more}
+use Rattle.std.proofs.lemmas.List.{get_or_default}
 use Rattle.std.proofs.lemmas.Option.{none-some, same_Some}
-use Rattle.elf_image.specs.Layout.{SegmentData, IsSegment, IsApart, IsWithin, segment_at}
+use Rattle.elf_image.specs.Layout.{SegmentData, IsSegment, IsApart, segment_at}
 use Rattle.dyn_link.specs.declared.binding.Binding.{Binding}
 use Rattle.dyn_link.specs.declared.relocation.Relocation.{Relocation}
-use Rattle.dyn_link.specs.declared.slot.Place.{Place}
 use Rattle.dyn_link.specs.Placed.{AreNumbers, IsPlaced}
 use Rattle.dyn_link.specs.Relocations.{is_slot, is_bad_relocation, is_bound_kind, has_name, symbol_record}
 use Rattle.dyn_link.proofs.Finding.{segment_found, segment_there, each_fails}
@@ -27,9 +26,9 @@ pub numbers_more : (segments : List SegmentData) (m new : BTreeMap ℕ ℕ) (i a
 numbers_more segments m new i at full apart lt at_is updates before k d less = elim (cases_lt k i) [
   | inl earlier ↦
       let differs : (get_or segments k d).at ≢ at = λ same.
-          apart k i d earlier lt at
-              (omega (arith, same), omega (arith, same, (full k d (omega arith)).occupied))
-              (omega (arith, at_is d), omega (arith, at_is d, (full i d lt).occupied)) in
+      apart k i d earlier lt at
+      (omega (arith, same), omega (arith, same, (full k d (omega arith)).occupied))
+      (omega (arith, at_is d), omega (arith, at_is d, (full i d lt).occupied)) in
       updates.2 (get_or segments k d).at (not_at at (get_or segments k d).at differs) ∙ before k d earlier
   | inr rest ↦
       let e : k ≡ i = omega arith in

@@ -1,7 +1,6 @@
 -- Which faults are ruled out, by what the tables of a file are.
-use Rattle.std.proofs.Common.{◌≡◌, ℕ, ◌||◌, Bool, true, false, List, Some, None, refl, sym, ◌∙◌}
-use Rattle.std.specs.Prelude.{unwrap_or}
-use Rattle.std.specs.List.{position, list_any}
+use Rattle.std.proofs.Common.{◌≡◌, ℕ, ◌||◌, Bool, false, List, Some, None, refl, sym, ◌∙◌}
+use Rattle.std.specs.List.{position}
 use mathlib.Core.Bool.{false≢true}
 use Rattle.elf_image.specs.declared.range.Range.{Range}
 use Rattle.elf_image.specs.Layout.{SegmentData}

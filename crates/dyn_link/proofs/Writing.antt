@@ -1,7 +1,6 @@
 -- Slots written into segments.
-use Rattle.std.proofs.Common.{◌≡◌, ◌≢◌, ℕ, ◌+◌, ◌-◌, ◌<◌, ◌≤◌, ◌&&◌, nat_lt, nat_le, cond, Bool, true, false, List, [], ◌∷◌, ◌++◌, length, map, take, drop, set, get_or, Some, refl, sym, ap, subst, ◌∙◌, inl, inr, arith, length-set, length-append, length-drop}
-use Rattle.std.specs.Prelude.{All, AllPairs, fold, sum_by, IsTrue}
-use mathlib.Core.Bool.{false≢true}
+use Rattle.std.proofs.Common.{◌≡◌, ◌≢◌, ℕ, ◌+◌, ◌-◌, ◌<◌, ◌≤◌, ◌&&◌, nat_lt, nat_le, cond, Bool, true, false, List, [], ◌∷◌, ◌++◌, length, map, take, drop, set, get_or, refl, sym, ap, subst, ◌∙◌, inl, inr, arith, length-set, length-append, length-drop}
+use Rattle.std.specs.Prelude.{All, AllPairs, fold, sum_by}
 use Rattle.byteorder.specs.Endian.{little_bytes}
 use Rattle.std.proofs.lemmas.Bool.{cases_lt, cases_eq}
 use Rattle.std.proofs.lemmas.Bool.Decides.{nat_tests}
@@ -44,7 +43,7 @@ written_out : (b : Binding) (s : SegmentData) → (IsWithin b.slot s → ⊥) �
 unfolding written
 written_out b s out =
     let fails : (nat_le s.at b.slot && nat_lt b.slot (s.at + s.size)) ≡ false =
-        by_test (nat_le s.at b.slot && nat_lt b.slot (s.at + s.size)) (λ is. absurd (out (grind (arith, nat_tests, is), grind (arith, nat_tests, is)))) (λ f. f) in
+    by_test (nat_le s.at b.slot && nat_lt b.slot (s.at + s.size)) (λ is. absurd (out (grind (arith, nat_tests, is), grind (arith, nat_tests, is)))) (λ f. f) in
     rw fails refl
 
 written_in : (b : Binding) (s : SegmentData) → IsWithin b.slot s → written b s ≡ with_number (b.slot - s.at) (held b.function) s

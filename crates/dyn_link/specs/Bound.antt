@@ -1,5 +1,5 @@
 -- The image in which each slot holds the address of its function, and why a file has none.
-use Rattle.std.specs.Prelude.{◌≡◌, ℕ, ◌+◌, ◌-◌, ◌*◌, nat_lt, nat_le, Bool, false, ◌&&◌, if◌then◌else◌, List, [], ◌∷◌, ◌++◌, length, map, take, drop, fold, Option, Some, None, ⊤}
+use Rattle.std.specs.Prelude.{◌≡◌, ℕ, ◌+◌, ◌-◌, ◌*◌, nat_lt, nat_le, Bool, false, ◌&&◌, if◌then◌else◌, List, ◌++◌, map, take, drop, fold, Option, Some, None, ⊤}
 use Rattle.std.specs.List.{filter_map, list_any, position}
 use Rattle.std.specs.Option.{option_map}
 use Rattle.byteorder.specs.Endian.{little_bytes}

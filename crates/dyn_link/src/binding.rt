@@ -147,6 +147,7 @@ impl<'a> Names<'a> {
             function: self.function_of(image, r),
         }
     }
+
     pub(crate) fn first_bad(&self, image: &Image, relocations: &[Relocation]) -> Option<usize>
         ensures { result ≡ position (is_bad_relocation image.now.segments self.now.strings.now self.now.symbols) relocations.now }
     {

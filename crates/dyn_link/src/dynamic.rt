@@ -45,11 +45,7 @@ fn read_tagged(bytes: &[u8], at: usize) -> Tagged
 }
 
 // All whole entries of the segment.
-fn entries_of(
-    alloc: Global,
-    bytes: &[u8],
-    range: Range,
-) -> Result<Vec<Tagged>, AllocError>
+fn entries_of(alloc: Global, bytes: &[u8], range: Range) -> Result<Vec<Tagged>, AllocError>
     requires { passes_end range.offset range.size bytes.now ≡ false }
     ensures { IfOk result (λ v. v.items ≡ entries_of bytes.now range) }
 {

@@ -24,10 +24,7 @@ fn add_function(entries: &mut Vec<LibPlace>, function: Function) -> Result<(), A
 }
 
 // Adds where the bound functions are called, each once.
-pub(crate) fn add_functions(
-    entries: &mut Vec<LibPlace>,
-    places: &[Place],
-) -> Result<(), AllocError>
+pub(crate) fn add_functions(entries: &mut Vec<LibPlace>, places: &[Place]) -> Result<(), AllocError>
     requires rising { AllPairs IsBelow entries.old.items }
     requires free { HasNoneKept entries.old.items }
     ensures { OnOk result (AreInOrder (entries.old.items ++ bound_places (map (λ p. p.binding) places.now)) entries.new.items) }

@@ -1,6 +1,5 @@
-use Rattle.std.proofs.Common.{◌≡◌, ◌+◌, ◌*◌, ◌^◌, ◌≤◌, None, refl, ap, ◌∙◌, arith}
-use Rattle.std.specs.Option.{option_map}
-use Rattle.dyn_link.specs.Dynamic.{run_at, run_in}
+use Rattle.std.proofs.Common.{◌+◌, ◌*◌, ◌^◌, ◌≤◌, refl, arith}
+use Rattle.dyn_link.specs.Dynamic.{run_at}
 use Rattle.dyn_link.specs.Relocations.{symbol_record}
 use Rattle.dyn_link.proofs.Finding.{none_above}
 use Rattle.dyn_link.proofs.binding.symbol_record.Goals as goal

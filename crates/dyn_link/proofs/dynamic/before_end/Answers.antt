@@ -1,5 +1,5 @@
-use Rattle.std.proofs.Common.{◌≡◌, Some, None, sym, ◌∙◌, refl, ap, arith}
-use Rattle.std.specs.List.{list_any, position, position_or_len}
+use Rattle.std.proofs.Common.{◌≡◌, Some, None, refl}
+use Rattle.std.specs.List.{position, position_or_len}
 use Rattle.dyn_link.specs.Dynamic.{is_end}
 use Rattle.dyn_link.proofs.Finding.{none_passes, one_passes, position_is}
 use Rattle.dyn_link.proofs.dynamic.before_end.Goals as goal

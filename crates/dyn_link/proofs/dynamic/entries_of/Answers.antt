@@ -1,5 +1,4 @@
-use Rattle.std.proofs.Common.{◌≡◌, ◌/◌, ◌∙◌, ap, refl, arith}
-use Rattle.elf_image.specs.Elf.{table}
+use Rattle.std.proofs.Common.{◌≡◌, ◌/◌, refl, arith}
 use Rattle.dyn_link.specs.Dynamic.{tagged, entries_of}
 use Rattle.dyn_link.proofs.Tables.{table_more}
 use Rattle.dyn_link.proofs.dynamic.entries_of.Goals as goal

@@ -1,7 +1,5 @@
-use Rattle.std.proofs.Common.{◌≡◌, Ok, Err, sym, ap, ◌∙◌, rules}
+use Rattle.std.proofs.Common.{rules}
 use Rattle.std.proofs.lemmas.List.Sorted.{answers_always}
-use Rattle.std.specs.List.Sorted.{IsBinarySearchResult, IsSearchInRange}
-use Rattle.std.specs.Ordering.{nat_cmp}
 use Rattle.dyn_link.specs.Bound.{place_for}
 use Rattle.dyn_link.proofs.Ordering.{there_already, inserted}
 use Rattle.dyn_link.proofs.entry.add_function.Goals as goal

@@ -1,6 +1,6 @@
-use Rattle.std.proofs.Common.{◌≡◌, None, map, take, sym, ap, ◌∙◌}
+use Rattle.std.proofs.Common.{None, map, take}
 use Rattle.dyn_link.specs.declared.slot.Place.{Place}
-use Rattle.dyn_link.proofs.Ordering.{own_so_far, functions_more, functions_same, in_order_none}
+use Rattle.dyn_link.proofs.Ordering.{own_so_far, functions_more, functions_same}
 use Rattle.dyn_link.proofs.entry.add_functions.Goals as goal
 use Rattle.dyn_link.proofs.entry.add_functions.Goals.{in-Some+in_ok-add_function-in-Some, in-None}
 

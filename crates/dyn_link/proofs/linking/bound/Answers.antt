@@ -1,4 +1,4 @@
-use Rattle.std.proofs.Common.{◌≡◌, map, sym, subst}
+use Rattle.std.proofs.Common.{map, sym, subst}
 use Rattle.elf_image.specs.Layout.{ImageData, IsImage}
 use Rattle.dyn_link.specs.declared.slot.Place.{Place}
 use Rattle.dyn_link.proofs.Writing.{bound_image}

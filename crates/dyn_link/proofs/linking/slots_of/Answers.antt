@@ -1,4 +1,4 @@
-use Rattle.std.proofs.Common.{◌≡◌, Some, None, sym, ap, ◌∙◌}
+use Rattle.std.proofs.Common.{◌≡◌, Some, None, sym, ◌∙◌}
 use Rattle.std.specs.List.{position}
 use Rattle.dyn_link.specs.Relocations.{is_bad_relocation, is_unknown}
 use Rattle.dyn_link.proofs.Finding.{none_passes}

@@ -1,4 +1,4 @@
-use Rattle.std.proofs.Common.{◌≤◌, length, arith}
+use Rattle.std.proofs.Common.{arith}
 use Rattle.dyn_link.proofs.Names.{ended_before}
 use Rattle.dyn_link.proofs.name.end_of_names.Goals as goal
 

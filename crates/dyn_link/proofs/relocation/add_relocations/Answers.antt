@@ -1,4 +1,4 @@
-use Rattle.std.proofs.Common.{◌≡◌, ◌+◌, ◌*◌, ◌/◌, ◌∙◌, ap, refl, length, rules, arith}
+use Rattle.std.proofs.Common.{◌≡◌, ◌+◌, ◌*◌, ◌/◌, ◌∙◌, ap, refl, length, arith}
 use Rattle.dyn_link.specs.Relocations.{relocation, relocations_in}
 use Rattle.dyn_link.proofs.Tables.{pushed_more}
 use Rattle.dyn_link.proofs.relocation.add_relocations.Goals as goal

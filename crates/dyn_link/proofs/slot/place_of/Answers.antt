@@ -1,6 +1,4 @@
 use Rattle.std.proofs.Common.{◌≡◌, Some, sym, ap, refl, ◌∙◌}
-use Rattle.std.specs.Option.{option_copied}
-use Rattle.std.proofs.lemmas.Option.{same_Some}
 use Rattle.elf_image.specs.Layout.{SegmentData, segment_at}
 use Rattle.dyn_link.proofs.Placing.{number_of, number_there, copied_there, is_placed}
 use Rattle.dyn_link.proofs.slot.place_of.Goals as goal

@@ -1,6 +1,6 @@
-use Rattle.std.proofs.Common.{◌≡◌, ℕ, ◌-◌, ap, ◌∙◌}
+use Rattle.std.proofs.Common.{ℕ, ◌-◌, ap, ◌∙◌}
 use Rattle.elf_image.specs.Layout.{SegmentData}
-use Rattle.dyn_link.specs.Bound.{with_number, held}
+use Rattle.dyn_link.specs.Bound.{with_number}
 use Rattle.dyn_link.proofs.Writing.{set_written, set_whole}
 use Rattle.dyn_link.proofs.slot.write_place.Goals as goal
 

@@ -1,8 +1,7 @@
-use Rattle.std.proofs.Common.{◌≡◌, ◌+◌, ◌++◌, [], ◌∷◌, None, map, take, refl, sym, ap, ◌∙◌}
+use Rattle.std.proofs.Common.{None, map, take, sym, ap, ◌∙◌}
 use Rattle.std.proofs.lemmas.List.{map_more}
 use Rattle.dyn_link.specs.declared.binding.Binding.{Binding}
 use Rattle.dyn_link.specs.declared.slot.Place.{Place}
-use Rattle.dyn_link.specs.Bound.{bound_segments, written}
 use Rattle.dyn_link.proofs.Writing.{shape, bound_none, bound_more, shapes_bound, apart_too, placed_too}
 use Rattle.dyn_link.proofs.slot.write_places.Goals as goal
 
