@@ -20,3 +20,6 @@ mod table;
 
 pub use fault::LinkFault;
 pub use linking::bind;
+
+#[cfg(test)]
+mod tests;
