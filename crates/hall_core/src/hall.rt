@@ -11,7 +11,7 @@ ghost use Rattle.tso_memory.specs.Tso.{is_none_waiting};
 ghost use Rattle.basic_blocks.specs.Reach.{is_among};
 ghost use Rattle.machine_model.specs.Gated.{Leads, begin};
 ghost use Rattle.machine_model.specs.Play.{play};
-ghost use Rattle.machine_model.specs.State.{is_live, list_at, thread_in};
+ghost use Rattle.machine_model.specs.State.{IsSized, is_live, list_at, thread_in};
 ghost use Rattle.hall_core.specs.Hall.{StandsAt, both, grown, machine, mark_at};
 
 use crate::fits::Fits;
@@ -224,13 +224,15 @@ impl<B: Fits> Hall<B> {
     }
 
     /// Tells callers what the type keeps: the journal is gated and played, each grown block is right at its place, a marked
-    /// thread stands at the request of its mark, and the limit and the journal are not long.
+    /// thread stands at the request of its mark, there are 64 cores, slots and lists of waiting writes, and the limit and the
+    /// journal are not long.
     pub fn facts(&self)
         ensures gated { Leads self.now.case (begin self.now.case) self.now.journal (both self.now) }
         ensures played { play self.now.case self.now.journal ≡ Some (machine self.now) }
         ensures fits { (a : ℕ) (b : B) → map.get self.now.blocks a ≡ Some b → B.fits self.now.case.image a b }
         ensures grown { (a : ℕ) → is_some (map.get self.now.blocks a) ≡ is_among (grown self.now) a }
         ensures marks { (s : ℕ) (ask : AskData) → mark_at self.now s ≡ Some ask → StandsAt self.now.case.image (machine self.now) s ask }
+        ensures sized { IsSized (machine self.now) }
         ensures limit { self.now.case.limit ≤ 2 ^ 27 }
         ensures short { length self.now.journal ≤ 2 * self.now.case.limit + 65537 }
     {
