@@ -1,2 +1,5 @@
 pub mod Numbers
+pub mod Rows
+pub mod Tables
+pub mod Walking
 pub mod WordLemmas

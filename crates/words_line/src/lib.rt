@@ -8,10 +8,12 @@
 //! each at most once, as `--x v` or `--x=v`; a word for help or for a version is refused like an unknown one.
 #![tactic(auto)]
 
+mod laws;
 mod plan;
 mod table;
 mod words;
 
+pub use laws::words_are_read;
 pub use plan::{Plan, Text, Texts, WordsError, WordsFault};
 pub use words::read_words;
 

@@ -1,0 +1,119 @@
+-- Arguments as the rules that clap makes of them.
+use Rattle.std.proofs.Common.{◌≡◌, ℕ, ◌+◌, ◌<◌, ◌≤◌, Bool, true, false, not, cond, ◌&&◌, ◌||◌, List, [], ◌∷◌, map, Option, Some, None, option_map, codes, refl, sym, ap, subst, ◌∙◌, eqb-true, arith}
+use Rattle.std.specs.Prelude.{◌==◌, find, is_some, option_to_list}
+use Rattle.std.specs.Option.{option_map_or}
+use Rattle.std.specs.Str.{bytes_eq}
+use Rattle.std.proofs.lemmas.Slice.Eq.{bytes_eq-Decides}
+use Rattle.clap.specs.Words.{Row, Rule, Shape, Text, built, new_rule}
+use Rattle.clap.specs.Simple.{new_shape}
+use Rattle.clap.specs.Walk.{arg_by_id, arg_by_index, arg_by_long, arg_by_short, has_long}
+use Rattle.clap.specs.declared.builder.action.ArgAction.TheVariants.{Set, SetTrue}
+use Rattle.clap.specs.declared.builder.value_parser.ValueParser.{ValueParser}
+use Rattle.clap.specs.declared.builder.value_parser.ValueParser.TheVariants as vp
+use Rattle.words_line.specs.Lines.{Argument, Values, any, flag, gen_arguments, is_at, is_named, lift_arguments, name_of, numbers, option, place, run_arguments}
+use Rattle.words_line.specs.Rules.{gen_app, lift_app, run_app}
+
+-- ---- rules
+
+abbrev pub parser_of : Values → ValueParser
+parser_of any = vp.String
+parser_of (numbers low high) = vp.Unsigned low high
+
+-- a rule that takes one value
+abbrev pub valued : Text → Option Text → Option ℕ → List Text → Values → Bool → Rule
+valued name long index defaults values required = record (new_rule name) {
+  long = long;
+  index = index;
+  action = Some Set;
+  defaults = defaults;
+  parser = Some (parser_of values);
+  range = Some (record { start_inclusive = 1; end_inclusive = 1 });
+  required = required;
+}
+
+abbrev pub rule_of : Argument → Rule
+rule_of (flag name) = record (new_rule name) {
+  long = Some name;
+  action = Some SetTrue;
+  defaults = codes "false" ∷ [];
+  missing = codes "true" ∷ [];
+  parser = Some vp.Bool;
+  range = Some (record { start_inclusive = 0; end_inclusive = 0 });
+}
+rule_of (option name values default) = valued name (Some name) None (option_to_list default) values false
+rule_of (place at name values required) = valued name None (Some at) [] values required
+
+abbrev pub shape : Text → List Argument → Shape
+shape name arguments = record (new_shape name) {
+  rules = map rule_of arguments;
+  disable_help_flag = true;
+  disable_help_subcommand = true;
+  is_built = true;
+}
+
+pub lift_shape : (built lift_app).top ≡ shape (codes "lift") lift_arguments
+lift_shape = refl
+
+pub run_shape : (built run_app).top ≡ shape (codes "run") run_arguments
+run_shape = refl
+
+pub gen_shape : (built gen_app).top ≡ shape (codes "gen") gen_arguments
+gen_shape = refl
+
+-- ---- finding
+
+find-map : {A B : Type 0} (f : A → B) (p : B → Bool) (q : A → Bool) → ((x : A) → p (f x) ≡ q x) → (xs : List A) → find p (map f xs) ≡ option_map f (find q xs)
+find-map f p q same [] = refl
+find-map {A} {B} f p q same (x ∷ xs) = (λ i. cond (same x i) (Some (f x)) (find-map f p q same xs i)) ∙ go (q x)
+  where
+    go : (b : Bool) → cond b (Some (f x)) (option_map f (find q xs)) ≡ option_map f (cond b (Some x) (find q xs))
+    go true = refl
+    go false = refl
+
+or-false : (b : Bool) → (b || false) ≡ b
+or-false true = refl
+or-false false = refl
+
+pub by_long : (arguments : List Argument) (name : Text) → arg_by_long (map rule_of arguments) name ≡ option_map rule_of (find (is_named name) arguments)
+by_long arguments name = find-map rule_of (λ a. not (is_some a.index) && has_long a name) (is_named name) same arguments
+  where
+    same : (x : Argument) → (not (is_some (rule_of x).index) && has_long (rule_of x) name) ≡ is_named name x
+    same (flag n) = or-false (bytes_eq n name)
+    same (option n values default) = or-false (bytes_eq n name)
+    same (place at n values required) = refl
+
+pub by_index : (arguments : List Argument) (i : ℕ) → arg_by_index (map rule_of arguments) i ≡ option_map rule_of (find (is_at i) arguments)
+by_index arguments i = find-map rule_of (λ a. option_map_or (λ k. k == i) a.index false) (is_at i) same arguments
+  where
+    same : (x : Argument) → option_map_or (λ k. k == i) (rule_of x).index false ≡ is_at i x
+    same (flag n) = refl
+    same (option n values default) = refl
+    same (place at n values required) = refl
+
+pub by_short : (arguments : List Argument) (x : ℕ) → arg_by_short (map rule_of arguments) x ≡ None
+by_short [] x = refl
+by_short (flag n ∷ rest) x = by_short rest x
+by_short (option n values default ∷ rest) x = by_short rest x
+by_short (place at n values required ∷ rest) x = by_short rest x
+
+abbrev pub Each : {A : Type 0} → (A → Type 0) → List A → Type 0
+Each P [] = Unit {0}
+Each P (x ∷ xs) = P x × Each P xs
+
+pub find_in : {A : Type 0} (P : A → Type 0) (q : A → Bool) (xs : List A) (x : A) → Each P xs → find q xs ≡ Some x → P x × (q x ≡ true)
+find_in P q [] x each e = absurd cc
+find_in {A} P q (y ∷ ys) x each e = go (q y) refl (find_in P q ys x each.1) e
+  where
+    go : (b : Bool) → q y ≡ b → (find q ys ≡ Some x → P x × (q x ≡ true)) → cond b (Some y) (find q ys) ≡ Some x → P x × (q x ≡ true)
+    go true is next found = let same : y ≡ x = cc in (subst P same each.0, ap q (sym same) ∙ is)
+    go false is next found = next found
+
+-- ---- tables
+
+-- clap finds the argument by its name, and its place is no large number
+pub record IsIn (arguments : List Argument) (a : Argument) : Type 0 where
+  pub found : arg_by_id (map rule_of arguments) (name_of a) ≡ Some (rule_of a)
+  pub low : (i : ℕ) → is_at i a ≡ true → i < 100
+
+abbrev pub IsTable : List Argument → Type 0
+IsTable arguments = Each (IsIn arguments) arguments
