@@ -1,3 +1,4 @@
+pub mod Found
 pub mod Numbers
 pub mod Rows
 pub mod Tables

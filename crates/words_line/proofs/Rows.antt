@@ -62,7 +62,7 @@ at_row-new id change new (r ∷ rs) e = go (bytes_eq r.id id) (at_row-new id cha
     go true next e = absurd cc
     go false next e = ap (λ (xs : List Row). r ∷ xs) (next e)
 
-append-none : {A : Type 0} (xs : List A) → xs ++ [] ≡ xs
+pub append-none : {A : Type 0} (xs : List A) → xs ++ [] ≡ xs
 append-none [] = refl
 append-none {A} (x ∷ xs) = ap (λ (ys : List A). x ∷ ys) (append-none xs)
 

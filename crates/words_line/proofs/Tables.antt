@@ -10,7 +10,7 @@ use Rattle.clap.specs.Walk.{arg_by_id, arg_by_index, arg_by_long, arg_by_short, 
 use Rattle.clap.specs.declared.builder.action.ArgAction.TheVariants.{Set, SetTrue}
 use Rattle.clap.specs.declared.builder.value_parser.ValueParser.{ValueParser}
 use Rattle.clap.specs.declared.builder.value_parser.ValueParser.TheVariants as vp
-use Rattle.words_line.specs.Lines.{Argument, Values, any, flag, gen_arguments, is_at, is_named, lift_arguments, name_of, numbers, option, place, run_arguments}
+use Rattle.words_line.specs.Lines.{Argument, Values, any, default_of, flag, gen_arguments, is_at, is_named, lift_arguments, name_of, numbers, option, place, run_arguments, takes, values_of}
 use Rattle.words_line.specs.Rules.{gen_app, lift_app, run_app}
 
 -- ---- rules
@@ -110,10 +110,42 @@ find_in {A} P q (y ∷ ys) x each e = go (q y) refl (find_in P q ys x each.1) e
 
 -- ---- tables
 
--- clap finds the argument by its name, and its place is no large number
+-- clap finds the argument by its name, its place is no large number, and it takes its default
 pub record IsIn (arguments : List Argument) (a : Argument) : Type 0 where
   pub found : arg_by_id (map rule_of arguments) (name_of a) ≡ Some (rule_of a)
   pub low : (i : ℕ) → is_at i a ≡ true → i < 100
+  pub default : option_map_or (takes (values_of a)) (default_of a) true ≡ true
 
 abbrev pub IsTable : List Argument → Type 0
 IsTable arguments = Each (IsIn arguments) arguments
+
+low_at : (i at : ℕ) → at < 100 → (at == i) ≡ true → i < 100
+low_at i at h e = let same = eqb-true at i e in omega (arith, h, same)
+
+none_at : (i : ℕ) → false ≡ true → i < 100
+none_at i e = absurd cc
+
+pub lift_table : IsTable lift_arguments
+lift_table =
+    (record { found = refl; low = λ i e. low_at i 1 (omega arith) e; default = refl },
+    (record { found = refl; low = none_at; default = refl },
+    (record { found = refl; low = none_at; default = refl }, tt)))
+
+pub run_table : IsTable run_arguments
+run_table =
+    (record { found = refl; low = none_at; default = refl },
+    (record { found = refl; low = none_at; default = refl },
+    (record { found = refl; low = λ i e. low_at i 1 (omega arith) e; default = refl },
+    (record { found = refl; low = λ i e. low_at i 2 (omega arith) e; default = refl },
+    (record { found = refl; low = none_at; default = refl },
+    (record { found = refl; low = none_at; default = refl },
+    (record { found = refl; low = none_at; default = refl },
+    (record { found = refl; low = none_at; default = refl },
+    (record { found = refl; low = none_at; default = refl }, tt)))))))))
+
+pub gen_table : IsTable gen_arguments
+gen_table =
+    (record { found = refl; low = λ i e. low_at i 1 (omega arith) e; default = refl },
+    (record { found = refl; low = λ i e. low_at i 2 (omega arith) e; default = refl },
+    (record { found = refl; low = λ i e. low_at i 3 (omega arith) e; default = refl },
+    (record { found = refl; low = λ i e. low_at i 4 (omega arith) e; default = refl }, tt))))
