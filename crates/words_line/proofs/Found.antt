@@ -1,5 +1,5 @@
 -- What clap finds on a line without a fault, by its uses.
-use Rattle.std.proofs.Common.{◌≡◌, ℕ, ◌+◌, Bool, true, false, not, cond, ◌&&◌, ◌||◌, List, [], ◌∷◌, ◌++◌, map, fold, Option, Some, None, option_map, is_some, refl, sym, ap, subst, ◌∙◌, append_assoc}
+use Rattle.std.proofs.Common.{◌≡◌, ℕ, ◌+◌, Bool, true, false, not, cond, ◌&&◌, ◌||◌, List, [], ◌∷◌, ◌++◌, map, fold, Option, Some, None, option_map, codes, is_some, refl, sym, ap, subst, ◌∙◌, append_assoc}
 use Rattle.std.specs.Prelude.{find, option_and_then, option_to_list, if◌then◌else◌, slice_get}
 use Rattle.std.specs.List.{list_all, list_any}
 use Rattle.std.specs.Option.{option_map_or, option_or}
@@ -10,7 +10,9 @@ use Rattle.clap.specs.Facts.{explicit_source}
 use Rattle.clap.specs.Words.{Row, Rule, Text, first_of}
 use Rattle.clap.specs.Walk.{default_rows, has_row, is_empty, more_values, reading_by, with_default}
 use Rattle.clap.specs.Takes.{is_given as is_given_row}
-use Rattle.clap.specs.Faults.{default_fault, defaults_fault}
+use Rattle.clap.specs.Faults.{default_fault, defaults_fault, given_default_fault}
+use Rattle.clap.specs.Kinds.{Kinds}
+use Rattle.clap.specs.ValueTests.{is_unsigned_in}
 use Rattle.clap.specs.declared.builder.value_parser.Reading.{Reading}
 use Rattle.clap.specs.declared.parser.matches.ValueSource.TheVariants.{DefaultValue}
 use Rattle.words_line.specs.Lines.{Argument, Use, Values, any, default_of, defaults, flag, is_complete, is_given, is_once, is_required, name_of, numbers, option, place, takes, use_if, value_of}
@@ -268,8 +270,19 @@ value_is uses xs id =
 
 -- ---- no default is a fault
 
+no_if : (b c : Bool) (ks : Kinds) → ks ≡ [] → (if b || c then [] else ks) ≡ []
+no_if true c ks e = refl
+no_if false true ks e = refl
+no_if false false ks e = e
+
 no_fault : (arguments : List Argument) (rows : List Row) (a : Argument) → IsIn arguments a → default_fault rows (rule_of a) ≡ []
-no_fault arguments rows a fit = ?
+no_fault arguments rows (flag n) fit = no_if (has_row n rows) false (given_default_fault (rule_of (flag n)) (codes "false" ∷ [])) refl
+no_fault arguments rows (option n values None) fit = no_if (has_row n rows) true (given_default_fault (rule_of (option n values None)) []) refl
+no_fault arguments rows (option n any (Some d)) fit = no_if (has_row n rows) false (given_default_fault (rule_of (option n any (Some d))) (d ∷ [])) refl
+no_fault arguments rows (option n (numbers low high) (Some d)) fit =
+    let passes : is_unsigned_in low high d ≡ true = fit.default in
+    no_if (has_row n rows) false (given_default_fault (rule_of (option n (numbers low high) (Some d))) (d ∷ [])) (rw passes refl)
+no_fault arguments rows (place at n values required) fit = no_if (has_row n rows) true (given_default_fault (rule_of (place at n values required)) []) refl
 
 pub no_default_fault : (arguments : List Argument) (rows : List Row) (xs : List Argument) → Each (IsIn arguments) xs → defaults_fault rows (map rule_of xs) ≡ []
 unfolding defaults_fault
