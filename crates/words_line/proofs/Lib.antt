@@ -1,5 +1,6 @@
 pub mod Found
 pub mod Numbers
+pub mod Orders
 pub mod Reading
 pub mod Rows
 pub mod Tables

@@ -1,5 +1,5 @@
 -- The commands, and the plan that the words make.
-use Rattle.std.specs.Prelude.{◌≡◌, ℕ, ◌+◌, ◌&&◌, Bool, true, false, not, List, [], ◌∷◌, map, take, drop, find, Option, Some, None, Result, Ok, Err, if◌then◌else◌, codes, string_bytes, String, ⊤}
+use Rattle.std.specs.Prelude.{◌≡◌, ℕ, ◌+◌, ◌&&◌, Bool, true, false, not, List, [], ◌∷◌, map, take, drop, find, Option, Some, None, Result, Ok, Err, if◌then◌else◌, codes, string_bytes, String, IsPermutation, ⊤}
 use Rattle.std.specs.List.{list_any, position_or_len}
 use Rattle.std.specs.Str.{bytes_eq}
 use Rattle.clap.specs.Words.{App, Text, fault_of, matches_of}
@@ -91,6 +91,16 @@ read_or_unknown (Some kind) words = plan_read_by (row_of kind) words
 abbrev pub plan_read : List Text → Result Plan WordsFault
 plan_read [] = Err NoCommand
 plan_read (word ∷ rest) = read_or_unknown (command_of word) (word ∷ rest)
+
+-- two lines of the command that make the same uses in another order, with the same words behind the first `--`
+pub record AreReordered (row : CommandRow) (words others : List Text) : Type 0 where
+  pub uses : List Use
+  pub reordered : List Use
+  pub of_words : uses_of row words ≡ Some uses
+  pub of_others : uses_of row others ≡ Some reordered
+  pub order : IsPermutation uses reordered
+  pub behind : args_of words ≡ args_of others
+  pub refused : is_refused row words ≡ is_refused row others
 
 -- the answer is that of the words, but for want of memory
 abbrev pub AnswersBy : Result Plan WordsFault → Result Plan WordsError → Type 0

@@ -13,7 +13,7 @@ mod plan;
 mod table;
 mod words;
 
-pub use laws::words_are_read;
+pub use laws::{uses_in_any_order, words_are_read};
 pub use plan::{Plan, Text, Texts, WordsError, WordsFault};
 pub use words::read_words;
 
