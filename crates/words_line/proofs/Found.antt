@@ -15,7 +15,7 @@ use Rattle.clap.specs.Kinds.{Kinds}
 use Rattle.clap.specs.ValueTests.{is_unsigned_in}
 use Rattle.clap.specs.declared.builder.value_parser.Reading.{Reading}
 use Rattle.clap.specs.declared.parser.matches.ValueSource.TheVariants.{DefaultValue}
-use Rattle.words_line.specs.Lines.{Argument, Use, Values, any, default_of, defaults, flag, is_complete, is_given, is_once, is_required, name_of, numbers, option, place, takes, use_if, value_of}
+use Rattle.words_line.specs.Lines.{Parameter, Use, Values, any, default_of, defaults, flag, is_complete, is_given, is_once, is_required, name_of, numbers, option, place, takes, use_if, value_of}
 use Rattle.words_line.proofs.Tables.{Each, IsIn, rule_of}
 use Rattle.words_line.proofs.Rows.{append-none, applied, at_row-new, row_of}
 
@@ -105,7 +105,7 @@ abbrev with_row : Text → Reading → Option Text → List Row → List Row
 with_row id how None rows = rows
 with_row id how (Some v) rows = rows ++ default_row id how (v ∷ []) ∷ []
 
--- an argument that isn't given has its default
+-- a parameter that isn't given has its default
 default-new : (r : Rule) (d : Option Text) (rows : List Row) → r.defaults ≡ option_to_list d → has_row r.id rows ≡ false → default_rows r.id (reading_by r) r.defaults rows ≡ with_row r.id (reading_by r) d rows
 default-new r None rows e new = ap (λ (ds : List Text). default_rows r.id (reading_by r) ds rows) e
 default-new r (Some v) rows e new =
@@ -122,22 +122,22 @@ given-step id r d rows e = by (has_row r.id rows) refl
     by true f = refl
     by false f = ap (is_given_row id) (default-new r d rows e f) ∙ given-with id r.id (reading_by r) d rows
 
-its_default : (a : Argument) → (rule_of a).defaults ≡ option_to_list (default_of a)
+its_default : (a : Parameter) → (rule_of a).defaults ≡ option_to_list (default_of a)
 its_default (flag n) = refl
 its_default (option n values default) = refl
 its_default (place at n values required) = refl
 
-its_name : (a : Argument) → (rule_of a).id ≡ name_of a
+its_name : (a : Parameter) → (rule_of a).id ≡ name_of a
 its_name (flag n) = refl
 its_name (option n values default) = refl
 its_name (place at n values required) = refl
 
-its_need : (a : Argument) → (rule_of a).required ≡ is_required a
+its_need : (a : Parameter) → (rule_of a).required ≡ is_required a
 its_need (flag n) = refl
 its_need (option n values default) = refl
 its_need (place at n values required) = refl
 
-given-fold : (id : Text) (rows : List Row) (xs : List Argument) → is_given_row id (fold with_default rows (map rule_of xs)) ≡ is_given_row id rows
+given-fold : (id : Text) (rows : List Row) (xs : List Parameter) → is_given_row id (fold with_default rows (map rule_of xs)) ≡ is_given_row id rows
 given-fold id rows [] = refl
 given-fold id rows (x ∷ xs) = given-fold id (with_default rows (rule_of x)) xs ∙ given-step id (rule_of x) (default_of x) rows (its_default x)
 
@@ -150,7 +150,7 @@ given-uses id (u ∷ uses) = by (bytes_eq u.0 id) (given-uses id uses)
     by true e = refl
     by false e = e
 
-pub complete_is : (uses : List Use) (rows : List Row) → ((id : Text) → is_given_row id rows ≡ is_given uses id) → (xs : List Argument)
+pub complete_is : (uses : List Use) (rows : List Row) → ((id : Text) → is_given_row id rows ≡ is_given uses id) → (xs : List Parameter)
     → not (list_any (λ a. a.required && not (is_given_row a.id rows)) (map rule_of xs)) ≡ is_complete xs uses
 complete_is uses rows given [] = refl
 complete_is uses rows given (x ∷ xs) =
@@ -235,7 +235,7 @@ first-step id r d rows e have = by (has_row r.id rows) refl
     by true f = (first-has id r.id d rows have f, have)
     by false f = subst (FirstStep id r.id d rows) (sym (default-new r d rows e f)) (first-with id r.id (reading_by r) d rows have)
 
-first-fold : (id : Text) (rows : List Row) (xs : List Argument) → Each HasValue rows → first_of id (fold with_default rows (map rule_of xs)) ≡ option_or (first_of id rows) (value_of (defaults xs) id)
+first-fold : (id : Text) (rows : List Row) (xs : List Parameter) → Each HasValue rows → first_of id (fold with_default rows (map rule_of xs)) ≡ option_or (first_of id rows) (value_of (defaults xs) id)
 first-fold id rows [] have = or_none (first_of id rows)
 first-fold id rows (x ∷ xs) have =
     let step = first-step id (rule_of x) (default_of x) rows (its_default x) have in
@@ -258,13 +258,13 @@ first-uses id (u ∷ uses) = by (bytes_eq u.0 id) (first-uses id uses)
 
 -- ---- the uses' rows, with the defaults
 
-abbrev pub all_rows : List Use → List Argument → List Row
+abbrev pub all_rows : List Use → List Parameter → List Row
 all_rows uses xs = fold with_default (map row_of uses) (map rule_of xs)
 
-pub given_is : (uses : List Use) (xs : List Argument) (id : Text) → is_given_row id (all_rows uses xs) ≡ is_given uses id
+pub given_is : (uses : List Use) (xs : List Parameter) (id : Text) → is_given_row id (all_rows uses xs) ≡ is_given uses id
 given_is uses xs id = given-fold id (map row_of uses) xs ∙ given-uses id uses
 
-pub value_is : (uses : List Use) (xs : List Argument) (id : Text) → first_of id (all_rows uses xs) ≡ value_of (uses ++ defaults xs) id
+pub value_is : (uses : List Use) (xs : List Parameter) (id : Text) → first_of id (all_rows uses xs) ≡ value_of (uses ++ defaults xs) id
 value_is uses xs id =
     first-fold id (map row_of uses) xs (have_values uses) ∙ ap (λ (o : Option Text). option_or o (value_of (defaults xs) id)) (first-uses id uses) ∙ sym (value_of-append uses (defaults xs) id)
 
@@ -275,16 +275,16 @@ no_if true c ks e = refl
 no_if false true ks e = refl
 no_if false false ks e = e
 
-no_fault : (arguments : List Argument) (rows : List Row) (a : Argument) → IsIn arguments a → default_fault rows (rule_of a) ≡ []
-no_fault arguments rows (flag n) fit = no_if (has_row n rows) false (given_default_fault (rule_of (flag n)) (codes "false" ∷ [])) refl
-no_fault arguments rows (option n values None) fit = no_if (has_row n rows) true (given_default_fault (rule_of (option n values None)) []) refl
-no_fault arguments rows (option n any (Some d)) fit = no_if (has_row n rows) false (given_default_fault (rule_of (option n any (Some d))) (d ∷ [])) refl
-no_fault arguments rows (option n (numbers low high) (Some d)) fit =
+no_fault : (parameters : List Parameter) (rows : List Row) (a : Parameter) → IsIn parameters a → default_fault rows (rule_of a) ≡ []
+no_fault parameters rows (flag n) fit = no_if (has_row n rows) false (given_default_fault (rule_of (flag n)) (codes "false" ∷ [])) refl
+no_fault parameters rows (option n values None) fit = no_if (has_row n rows) true (given_default_fault (rule_of (option n values None)) []) refl
+no_fault parameters rows (option n any (Some d)) fit = no_if (has_row n rows) false (given_default_fault (rule_of (option n any (Some d))) (d ∷ [])) refl
+no_fault parameters rows (option n (numbers low high) (Some d)) fit =
     let passes : is_unsigned_in low high d ≡ true = fit.default in
     no_if (has_row n rows) false (given_default_fault (rule_of (option n (numbers low high) (Some d))) (d ∷ [])) (rw passes refl)
-no_fault arguments rows (place at n values required) fit = no_if (has_row n rows) true (given_default_fault (rule_of (place at n values required)) []) refl
+no_fault parameters rows (place at n values required) fit = no_if (has_row n rows) true (given_default_fault (rule_of (place at n values required)) []) refl
 
-pub no_default_fault : (arguments : List Argument) (rows : List Row) (xs : List Argument) → Each (IsIn arguments) xs → defaults_fault rows (map rule_of xs) ≡ []
+pub no_default_fault : (parameters : List Parameter) (rows : List Row) (xs : List Parameter) → Each (IsIn parameters) xs → defaults_fault rows (map rule_of xs) ≡ []
 unfolding defaults_fault
-no_default_fault arguments rows [] each = refl
-no_default_fault arguments rows (x ∷ xs) each = rw (no_fault arguments rows x each.0) (no_default_fault arguments (with_default rows (rule_of x)) xs each.1)
+no_default_fault parameters rows [] each = refl
+no_default_fault parameters rows (x ∷ xs) each = rw (no_fault parameters rows x each.0) (no_default_fault parameters (with_default rows (rule_of x)) xs each.1)

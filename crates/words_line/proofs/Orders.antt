@@ -13,7 +13,7 @@ use Rattle.words_line.specs.declared.plan.WordsFault.{WordsFault}
 use Rattle.words_line.specs.declared.plan.WordsFault.TheVariants.{Line}
 use Rattle.words_line.specs.declared.table.Kind.{Kind}
 use Rattle.words_line.specs.Commands.{AreReordered, CommandRow, args_of, command_of, is_refused, plan_of, plan_read, plan_read_by, read_or_unknown, row_of, uses_of}
-use Rattle.words_line.specs.Lines.{Argument, Use, defaults, is_complete, is_given, is_once, is_required, name_of, plan_of_uses, value_of}
+use Rattle.words_line.specs.Lines.{Parameter, Use, defaults, is_complete, is_given, is_once, is_required, name_of, plan_of_uses, value_of}
 use Rattle.words_line.proofs.Found.{value_of-append}
 use Rattle.words_line.proofs.Reading.{words_are_read}
 
@@ -149,31 +149,35 @@ value-same us vs moves once name = by (value_of us name) refl
 
 -- ---- the plan
 
-plan-same : (arguments : List Argument) (us vs : List Use) (plan : (Text → Option Text) → Plan) → IsPermutation us vs → plan_of_uses arguments (Some us) plan ≡ plan_of_uses arguments (Some vs) plan
-plan-same arguments us vs plan moves = by (is_once us) refl
+plan-same : (parameters : List Parameter) (us vs : List Use) (plan : (Text → Option Text) → Plan) → IsPermutation us vs → plan_of_uses parameters (Some us) plan ≡ plan_of_uses parameters (Some vs) plan
+plan-same parameters us vs plan moves = by (is_once us) refl
   where
-    complete : is_complete arguments us ≡ is_complete arguments vs
-    complete = λ i. list_all (λ a. not (is_required a) || list_any-IsPermutation (λ (u : Use). bytes_eq u.0 (name_of a)) us vs moves i) arguments
-    with_defaults : is_once us ≡ true → (name : Text) → value_of (us ++ defaults arguments) name ≡ value_of (vs ++ defaults arguments) name
+    complete : is_complete parameters us ≡ is_complete parameters vs
+    complete = λ i. list_all (λ a. not (is_required a) || list_any-IsPermutation (λ (u : Use). bytes_eq u.0 (name_of a)) us vs moves i) parameters
+
+    with_defaults : is_once us ≡ true → (name : Text) → value_of (us ++ defaults parameters) name ≡ value_of (vs ++ defaults parameters) name
     with_defaults once name =
-        value_of-append us (defaults arguments) name ∙ ap (λ (o : Option Text). option_or o (value_of (defaults arguments) name)) (value-same us vs moves once name) ∙ sym (value_of-append vs (defaults arguments) name)
-    by : (b : Bool) → is_once us ≡ b → plan_of_uses arguments (Some us) plan ≡ plan_of_uses arguments (Some vs) plan
+        value_of-append us (defaults parameters) name ∙ ap (λ (o : Option Text). option_or o (value_of (defaults parameters) name)) (value-same us vs moves once name) ∙ sym (value_of-append vs (defaults parameters) name)
+
+    by : (b : Bool) → is_once us ≡ b → plan_of_uses parameters (Some us) plan ≡ plan_of_uses parameters (Some vs) plan
     by true e =
         (λ i. if is_once us && complete i then Ok (plan (λ name. with_defaults e name i)) else Err Line)
-        ∙ (λ i. if once-same us vs moves i && is_complete arguments vs then Ok (plan (value_of (vs ++ defaults arguments))) else Err Line)
+        ∙ (λ i. if once-same us vs moves i && is_complete parameters vs then Ok (plan (value_of (vs ++ defaults parameters))) else Err Line)
     by false e =
-        ap (λ (b : Bool). if b && is_complete arguments us then Ok (plan (value_of (us ++ defaults arguments))) else Err Line) e
-        ∙ ap (λ (b : Bool). if b && is_complete arguments vs then Ok (plan (value_of (vs ++ defaults arguments))) else Err Line) (sym e ∙ once-same us vs moves)
+        ap (λ (b : Bool). if b && is_complete parameters us then Ok (plan (value_of (us ++ defaults parameters))) else Err Line) e
+        ∙ ap (λ (b : Bool). if b && is_complete parameters vs then Ok (plan (value_of (vs ++ defaults parameters))) else Err Line) (sym e ∙ once-same us vs moves)
 
 line-same : (row : CommandRow) (words others : List Text) → AreReordered row words others → plan_read_by row words ≡ plan_read_by row others
 line-same row words others r =
-    let uses : plan_of_uses row.arguments (uses_of row words) (row.plan (args_of words)) ≡ plan_of_uses row.arguments (uses_of row others) (row.plan (args_of words)) =
-        ap (λ (o : Option (List Use)). plan_of_uses row.arguments o (row.plan (args_of words))) r.of_words ∙ plan-same row.arguments r.uses r.reordered (row.plan (args_of words)) r.order
-        ∙ ap (λ (o : Option (List Use)). plan_of_uses row.arguments o (row.plan (args_of words))) (sym r.of_others) in
-    (λ i. if r.refused i then Err Line else uses i) ∙ ap (λ (args : List Text). if is_refused row others then Err Line else plan_of_uses row.arguments (uses_of row others) (row.plan args)) r.behind
+    let uses : plan_of_uses row.parameters (uses_of row words) (row.plan (args_of words)) ≡ plan_of_uses row.parameters (uses_of row others) (row.plan (args_of words)) =
+    ap (λ (o : Option (List Use)). plan_of_uses row.parameters o (row.plan (args_of words))) r.of_words ∙ plan-same row.parameters r.uses r.reordered (row.plan (args_of words)) r.order
+    ∙ ap (λ (o : Option (List Use)). plan_of_uses row.parameters o (row.plan (args_of words))) (sym r.of_others) in
+    (λ i. if r.refused i then Err Line else uses i) ∙ ap (λ (args : List Text). if is_refused row others then Err Line else plan_of_uses row.parameters (uses_of row others) (row.plan args)) r.behind
+
+known : (word : Text) (kind : Kind) (rest : List Text) → command_of word ≡ Some kind → plan_of (word ∷ rest) ≡ plan_read_by (row_of kind) (word ∷ rest)
+unfolding plan_read
+known word kind rest e = words_are_read (word ∷ rest) ∙ ap (λ (k : Option Kind). read_or_unknown k (word ∷ rest)) e
 
 pub in_any_order : (word : Text) (kind : Kind) (words others : List Text) → command_of word ≡ Some kind → AreReordered (row_of kind) (word ∷ words) (word ∷ others)
     → plan_of (word ∷ words) ≡ plan_of (word ∷ others)
-in_any_order word kind words others e r =
-    words_are_read (word ∷ words) ∙ ap (λ (k : Option Kind). read_or_unknown k (word ∷ words)) e ∙ line-same (row_of kind) (word ∷ words) (word ∷ others) r
-    ∙ ap (λ (k : Option Kind). read_or_unknown k (word ∷ others)) (sym e) ∙ sym (words_are_read (word ∷ others))
+in_any_order word kind words others e r = known word kind words e ∙ line-same (row_of kind) (word ∷ words) (word ∷ others) r ∙ sym (known word kind others e)

@@ -14,7 +14,7 @@ use Rattle.words_line.specs.declared.plan.WordsFault.TheVariants.{NoCommand, Unk
 use Rattle.words_line.specs.declared.table.Kind.{Kind}
 use Rattle.words_line.specs.declared.table.Kind.TheVariants as kinds
 use Rattle.words_line.specs.Commands.{args_of, command_of, dashes_at, is_dashes, is_refused, line_of, plan_by, plan_of, plan_or_unknown, plan_read, plan_read_by, read_or_unknown, row_of}
-use Rattle.words_line.specs.Lines.{Argument, Use, defaults, gen_arguments, is_complete, is_once, lift_arguments, plan_of_uses, reads, run_arguments, value_of}
+use Rattle.words_line.specs.Lines.{Parameter, Use, defaults, gen_parameters, is_complete, is_once, lift_parameters, plan_of_uses, reads, run_parameters, value_of}
 use Rattle.words_line.specs.Plans.{given}
 use Rattle.words_line.specs.Rules.{gen_app, lift_app, run_app}
 use Rattle.words_line.proofs.Tables.{IsTable, gen_table, lift_table, rule_of, run_table, shape}
@@ -34,51 +34,51 @@ faults_in_turn [] [] behind rows ok bad final some none = sym some
 faults_in_turn [] (k ∷ ks) behind rows ok bad final some none = ap (λ (b : Bool). cond b ok bad) (not_empty k ks) ∙ sym none
 faults_in_turn (k ∷ ks) settling behind rows ok bad final some none = ap (λ (b : Bool). cond b ok bad) (not_empty k ks) ∙ sym none
 
-module _ (name : Text) (arguments : List Argument) (table : IsTable arguments) (plan : (Text → Option Text) → Plan) where
+module _ (name : Text) (parameters : List Parameter) (table : IsTable parameters) (plan : (Text → Option Text) → Plan) where
   abbrev app : App
-  app = record { top = shape name arguments; subs = [] }
+  app = record { top = shape name parameters; subs = [] }
 
   abbrev all_rules : List Rule
-  all_rules = map rule_of arguments
+  all_rules = map rule_of parameters
 
   -- the plan of the rows at the walk's end
   abbrev final : Option (List Row) → Result Plan WordsFault
   final None = Err Line
   final (Some rows) =
-      if is_empty (or_else (defaults_fault rows all_rules) (check_fault (shape name arguments) (fold with_default rows all_rules) false)) then Ok (plan (given (fold with_default rows all_rules))) else Err Line
+      if is_empty (or_else (defaults_fault rows all_rules) (check_fault (shape name parameters) (fold with_default rows all_rules) false)) then Ok (plan (given (fold with_default rows all_rules))) else Err Line
 
   abbrev line_built : List Text → Result Plan WordsFault
   line_built line = if is_empty (built_fault app nothing_held line) then Ok (plan (given (rows_after all_rules [] line))) else Err Line
 
-  walked_to : (line : List Text) → line_built line ≡ final (out name arguments table (standing (held [] None) idle 1) line)
+  walked_to : (line : List Text) → line_built line ≡ final (out name parameters table (standing (held [] None) idle 1) line)
   walked_to line =
       let end = (walk all_rules [] nothing_held line).held in
       ap (λ (ks : Kinds). if is_empty ks then Ok (plan (given (rows_after all_rules [] line))) else Err Line) (leaf_fault app nothing_held line refl)
-      ∙ faults_in_turn (walk_fault (shape name arguments) [] (standing (held [] None) idle 1) line) (settle_fault all_rules false end)
-      (or_else (defaults_fault (settled all_rules end).rows all_rules) (check_fault (shape name arguments) (finished all_rules end) false)) (settled all_rules end).rows
+      ∙ faults_in_turn (walk_fault (shape name parameters) [] (standing (held [] None) idle 1) line) (settle_fault all_rules false end)
+      (or_else (defaults_fault (settled all_rules end).rows all_rules) (check_fault (shape name parameters) (finished all_rules end) false)) (settled all_rules end).rows
       (Ok (plan (given (finished all_rules end)))) (Err Line) final refl refl
 
-  complete : (uses : List Use) → is_empty (check_fault (shape name arguments) (all_rows uses arguments) false) ≡ is_complete arguments uses
-  complete uses = by (list_any (λ a. a.required && not (is_given_row a.id (all_rows uses arguments))) all_rules) ∙ complete_is uses (all_rows uses arguments) (given_is uses arguments) arguments
+  complete : (uses : List Use) → is_empty (check_fault (shape name parameters) (all_rows uses parameters) false) ≡ is_complete parameters uses
+  complete uses = by (list_any (λ a. a.required && not (is_given_row a.id (all_rows uses parameters))) all_rules) ∙ complete_is uses (all_rows uses parameters) (given_is uses parameters) parameters
     where
       by : (b : Bool) → is_empty (check_kinds false false b) ≡ not b
       by true = refl
       by false = refl
 
-  read_to : (uses : Option (List Use)) → final (after uses []) ≡ plan_of_uses arguments uses plan
+  read_to : (uses : Option (List Use)) → final (after uses []) ≡ plan_of_uses parameters uses plan
   read_to None = refl
   read_to (Some uses) = ap final (applied_from_none uses) ∙ by (is_once uses)
     where
-      by : (b : Bool) → final (if b then Some (map use_row uses) else None) ≡ (if b && is_complete arguments uses then Ok (plan (value_of (uses ++ defaults arguments))) else Err Line)
+      by : (b : Bool) → final (if b then Some (map use_row uses) else None) ≡ (if b && is_complete parameters uses then Ok (plan (value_of (uses ++ defaults parameters))) else Err Line)
       by false = refl
       by true =
-          ap (λ (ks : Kinds). if is_empty (or_else ks (check_fault (shape name arguments) (all_rows uses arguments) false)) then Ok (plan (given (all_rows uses arguments))) else Err Line)
-          (no_default_fault arguments (map use_row uses) arguments table)
-          ∙ ap (λ (b : Bool). if b then Ok (plan (given (all_rows uses arguments))) else Err Line) (complete uses)
-          ∙ (λ i. if is_complete arguments uses then Ok (plan (λ id. value_is uses arguments id i)) else Err Line)
+          ap (λ (ks : Kinds). if is_empty (or_else ks (check_fault (shape name parameters) (all_rows uses parameters) false)) then Ok (plan (given (all_rows uses parameters))) else Err Line)
+          (no_default_fault parameters (map use_row uses) parameters table)
+          ∙ ap (λ (b : Bool). if b then Ok (plan (given (all_rows uses parameters))) else Err Line) (complete uses)
+          ∙ (λ i. if is_complete parameters uses then Ok (plan (λ id. value_is uses parameters id i)) else Err Line)
 
-  line_is : (line : List Text) → list_any is_dashes line ≡ false → line_built line ≡ plan_of_uses arguments (reads arguments line None 1) plan
-  line_is line e = walked_to line ∙ ap final (line_walked name arguments table line e) ∙ read_to (reads arguments line None 1)
+  line_is : (line : List Text) → list_any is_dashes line ≡ false → line_built line ≡ plan_of_uses parameters (reads parameters line None 1) plan
+  line_is line e = walked_to line ∙ ap final (line_walked name parameters table line e) ∙ read_to (reads parameters line None 1)
 
 -- ---- the words before the first `--`
 
@@ -106,13 +106,14 @@ line_read kind words = ap (λ (r : Result Plan WordsFault). if is_refused (row_o
   where
     line : List Text
     line = take (dashes_at words) words
-    by : (k : Kind) → line_of (row_of k).app line ((row_of k).plan (args_of words)) ≡ plan_of_uses (row_of k).arguments (reads (row_of k).arguments (drop 1 line) None 1) ((row_of k).plan (args_of words))
-    by kinds.Lift = line_is (codes "lift") lift_arguments lift_table ((row_of kinds.Lift).plan (args_of words)) (drop 1 line) (none_behind line (no_dashes words))
-    by kinds.Run = line_is (codes "run") run_arguments run_table ((row_of kinds.Run).plan (args_of words)) (drop 1 line) (none_behind line (no_dashes words))
-    by kinds.Gen = line_is (codes "gen") gen_arguments gen_table ((row_of kinds.Gen).plan (args_of words)) (drop 1 line) (none_behind line (no_dashes words))
+
+    by : (k : Kind) → line_of (row_of k).app line ((row_of k).plan (args_of words)) ≡ plan_of_uses (row_of k).parameters (reads (row_of k).parameters (drop 1 line) None 1) ((row_of k).plan (args_of words))
+    by kinds.Lift = line_is (codes "lift") lift_parameters lift_table ((row_of kinds.Lift).plan (args_of words)) (drop 1 line) (none_behind line (no_dashes words))
+    by kinds.Run = line_is (codes "run") run_parameters run_table ((row_of kinds.Run).plan (args_of words)) (drop 1 line) (none_behind line (no_dashes words))
+    by kinds.Gen = line_is (codes "gen") gen_parameters gen_table ((row_of kinds.Gen).plan (args_of words)) (drop 1 line) (none_behind line (no_dashes words))
 
 pub words_are_read : (words : List Text) → plan_of words ≡ plan_read words
-unfolding plan_of
+unfolding plan_of plan_read
 words_are_read [] = refl
 words_are_read (word ∷ rest) = by (command_of word)
   where

@@ -9,7 +9,7 @@ use Rattle.clap.specs.Faults.{use_fault}
 use Rattle.clap.specs.Kinds.{Kinds, or_else, values_kinds}
 use Rattle.clap.specs.declared.builder.value_parser.Reading.TheVariants.{AsWritten}
 use Rattle.clap.specs.declared.parser.matches.ValueSource.TheVariants.{CommandLine, DefaultValue}
-use Rattle.words_line.specs.Lines.{Argument, Use, Values, any, flag, name_of, numbers, option, place, put, takes, values_of}
+use Rattle.words_line.specs.Lines.{Parameter, Use, Values, any, flag, name_of, numbers, option, place, put, takes, values_of}
 use Rattle.words_line.proofs.Tables.{parser_of, rule_of, valued}
 
 -- ---- what a fault leaves
@@ -113,7 +113,7 @@ put_fresh u rows (Some us) = go (has_row u.0 rows)
     go true = refl
     go false = refl
 
-put_if : (a : Argument) (v : Text) (rows : List Row) (next : Option (List Use)) (t : Bool)
+put_if : (a : Parameter) (v : Text) (rows : List Row) (next : Option (List Use)) (t : Bool)
     → bind (cond t (fresh (name_of a) rows (row_of (name_of a, v))) None) (after next) ≡ after (cond t (option_map (λ us. (name_of a, v) ∷ us) next) None) rows
 put_if a v rows next true = put_fresh (name_of a, v) rows next
 put_if a v rows next false = refl

@@ -13,7 +13,7 @@ use Rattle.clap.specs.Faults.{bundle_fault, bundle_step_fault, flag_word_fault, 
 use Rattle.clap.specs.Kinds.{Kinds, or_else}
 use Rattle.clap.specs.declared.error.kind.ErrorKind.TheVariants.{TooManyValues, UnknownArgument}
 use Rattle.words_line.specs.Commands.{is_dashes}
-use Rattle.words_line.specs.Lines.{Argument, Rest, Use, Values, flag, is_at, is_named, name_of, option, place, put, read_named, read_placed, read_word, reads}
+use Rattle.words_line.specs.Lines.{Parameter, Rest, Use, Values, flag, is_at, is_named, name_of, option, place, put, read_named, read_placed, read_word, reads}
 use Rattle.words_line.proofs.Tables.{IsIn, IsTable, by_index, by_long, by_short, find_in, rule_of, shape}
 use Rattle.words_line.proofs.Rows.{after, bind, bind-none, bind-unless, none_used, put_flag, put_option, put_place, unless, unless-or, used_by}
 
@@ -37,12 +37,12 @@ refused (k ∷ ks) x o e = refl
 same_text : (t : Text) → bytes_eq t t ≡ true
 same_text t = (bytes_eq-Decides t t).1 refl
 
-module _ (name : Text) (arguments : List Argument) (table : IsTable arguments) where
+module _ (name : Text) (parameters : List Parameter) (table : IsTable parameters) where
   abbrev s : Shape
-  s = shape name arguments
+  s = shape name parameters
 
   abbrev pub rules : List Rule
-  rules = map rule_of arguments
+  rules = map rule_of parameters
 
   -- the rows of what is held, where what is pending is no fault
   abbrev pub settle_out : Held → Option (List Row)
@@ -52,7 +52,7 @@ module _ (name : Text) (arguments : List Argument) (table : IsTable arguments) w
   abbrev pub out : Walk → List Text → Option (List Row)
   out w words = unless (walk_fault s [] w words) (settle_out (fold (walked rules []) w words).held)
 
-  settle_pending : (a : Argument) → IsIn arguments a → (rows : List Row) (values : List Text) → settle_out (held rows (Some (name_of a, values))) ≡ used_by (rule_of a) values rows
+  settle_pending : (a : Parameter) → IsIn parameters a → (rows : List Row) (values : List Text) → settle_out (held rows (Some (name_of a, values))) ≡ used_by (rule_of a) values rows
   settle_pending a fit rows values =
       ap (λ (o : Option Rule). unless (option_map_or (λ x. use_fault false x values rows) o []) (Some (used_by_id o values rows))) fit.found
 
@@ -76,11 +76,11 @@ module _ (name : Text) (arguments : List Argument) (table : IsTable arguments) w
 
   abbrev IdleIs : List Text → Type 0
   IdleIs words = (rows : List Row) (pending : Option (Text × List Text)) (i : ℕ)
-      → out (standing (held rows pending) idle i) words ≡ bind (settle_out (held rows pending)) (after (reads arguments words None i))
+      → out (standing (held rows pending) idle i) words ≡ bind (settle_out (held rows pending)) (after (reads parameters words None i))
 
   abbrev WaitIs : List Text → Type 0
-  WaitIs words = (a : Argument) → IsIn arguments a → takes_values (rule_of a) ≡ true → (rows : List Row) (i : ℕ)
-      → out (standing (held rows (Some (name_of a, []))) (awaiting (name_of a)) i) words ≡ after (reads arguments words (Some a) i) rows
+  WaitIs words = (a : Parameter) → IsIn parameters a → takes_values (rule_of a) ≡ true → (rows : List Row) (i : ℕ)
+      → out (standing (held rows (Some (name_of a, []))) (awaiting (name_of a)) i) words ≡ after (reads parameters words (Some a) i) rows
 
   -- ---- a word, where no option waits
 
@@ -92,7 +92,7 @@ module _ (name : Text) (arguments : List Argument) (table : IsTable arguments) w
     first = (settled rules h).rows
 
     abbrev next : Rest
-    next = reads arguments rest
+    next = reads parameters rest
 
     reacting : (a : Rule) (values : List Text)
         → unless (react_fault rules false a values h) (out (standing (reacted rules a values h) idle i) rest) ≡ bind (settle_out h) (λ r. bind (used_by a values r) (after (next None i)))
@@ -109,7 +109,7 @@ module _ (name : Text) (arguments : List Argument) (table : IsTable arguments) w
         unless-or (react_fault rules false a values h) [] (out (standing (reacted rules a values h) idle i) rest) ∙ reacting a values ∙ (λ j. bind (settle_out h) (λ r. same r j))
 
     -- an option begins to wait
-    waits_from : (a : Argument) → IsIn arguments a → takes_values (rule_of a) ≡ true
+    waits_from : (a : Parameter) → IsIn parameters a → takes_values (rule_of a) ≡ true
         → unless (or_else (settle_fault rules false h) []) (out (standing (held first (Some (name_of a, []))) (awaiting (name_of a)) i) rest) ≡ bind (settle_out h) (after (next (Some a) i))
     waits_from a fit takes =
         let o = out (standing (held first (Some (name_of a, []))) (awaiting (name_of a)) i) rest in
@@ -118,7 +118,7 @@ module _ (name : Text) (arguments : List Argument) (table : IsTable arguments) w
     abbrev long_after : Option Rule → Option Text → Held × Step
     long_after found v = after_flag rules idle word (long_met rules found v h).0 (long_met rules found v h).1
 
-    long_is : (text : Text) (found : Option Argument) (v : Option Text) → ((a : Argument) → found ≡ Some a → IsIn arguments a × (is_named text a ≡ true))
+    long_is : (text : Text) (found : Option Parameter) (v : Option Text) → ((a : Parameter) → found ≡ Some a → IsIn parameters a × (is_named text a ≡ true))
         → unless (or_else (long_fault rules false (option_map rule_of found) v h) (step_fault s i (long_after (option_map rule_of found) v).0 (long_after (option_map rule_of found) v).1))
         (out (after_step rules word (standing h idle i) (long_after (option_map rule_of found) v).0 (long_after (option_map rule_of found) v).1) rest)
         ≡ bind (settle_out h) (after (read_named found v next i))
@@ -136,7 +136,7 @@ module _ (name : Text) (arguments : List Argument) (table : IsTable arguments) w
     place_by n b k =
         unless (if b then [] else settle_fault rules false h) (out (standing (pushed n word (if b then h else settled rules h)) idle k) rest)
 
-    placed_is : (found : Option Argument) → ((a : Argument) → found ≡ Some a → IsIn arguments a × (is_at i a ≡ true))
+    placed_is : (found : Option Parameter) → ((a : Parameter) → found ≡ Some a → IsIn parameters a × (is_at i a ≡ true))
         → unless (option_map_or (λ a. positional_fault rules false a h) (option_map rule_of found) (stray_fault s)) (out (to_positional rules (option_map rule_of found) word (standing h idle i) h) rest)
         ≡ bind (settle_out h) (after (read_placed found word next i))
     placed_is None fits = sym (bind-none (settle_out h) None refl)
@@ -152,10 +152,10 @@ module _ (name : Text) (arguments : List Argument) (table : IsTable arguments) w
         ∙ sym (bind-unless none first (after (put a word (next None (i + 1)))))
 
     plain_is : unless (option_map_or (λ a. positional_fault rules false a h) (arg_by_index rules i) (stray_fault s)) (out (to_positional rules (arg_by_index rules i) word (standing h idle i) h) rest)
-        ≡ bind (settle_out h) (after (read_placed (find (is_at i) arguments) word next i))
+        ≡ bind (settle_out h) (after (read_placed (find (is_at i) parameters) word next i))
     plain_is =
-        ap (λ (o : Option Rule). unless (option_map_or (λ a. positional_fault rules false a h) o (stray_fault s)) (out (to_positional rules o word (standing h idle i) h) rest)) (by_index arguments i)
-        ∙ placed_is (find (is_at i) arguments) (λ a e. find_in (IsIn arguments) (is_at i) arguments a table e)
+        ap (λ (o : Option Rule). unless (option_map_or (λ a. positional_fault rules false a h) o (stray_fault s)) (out (to_positional rules o word (standing h idle i) h) rest)) (by_index parameters i)
+        ∙ placed_is (find (is_at i) parameters) (λ a e. find_in (IsIn parameters) (is_at i) parameters a table e)
 
     -- ---- a word by its looks
 
@@ -168,7 +168,7 @@ module _ (name : Text) (arguments : List Argument) (table : IsTable arguments) w
     -- a word that is no `--name`, by the fault and the outcome of its looks
     abbrev OtherIs : Kinds → Held × Step → Bool → Type 0
     OtherIs ks m short = unless (or_else ks (step_fault s i m.0 m.1)) (out (after_step rules word (standing h idle i) m.0 m.1) rest)
-        ≡ bind (settle_out h) (after (read_word arguments None short None word next i))
+        ≡ bind (settle_out h) (after (read_word parameters None short None word next i))
 
     abbrev bundle_after : Held × Outcome → Held × Step
     bundle_after m = after_flag rules idle word m.0 m.1
@@ -177,7 +177,7 @@ module _ (name : Text) (arguments : List Argument) (table : IsTable arguments) w
     first_is : (c : Option ℕ) (f : Text) (k : ℕ)
         → OtherIs (bundle_step_fault rules false c f 0 h (flags_fault rules false k)) (bundle_after (bundle_step rules c f 0 outcome_plain h (bundle_met rules k))) (is_some c)
     first_is None f k = plain_is
-    first_is (Some x) f k = refused_char (arg_by_short rules x) (by_short arguments x)
+    first_is (Some x) f k = refused_char (arg_by_short rules x) (by_short parameters x)
       where
         refused_char : (found : Option Rule) → found ≡ None
             → OtherIs (short_fault rules false found (drop (length (encode_utf8 x)) f) h (flags_fault rules false k (drop (length (encode_utf8 x)) f) 0))
@@ -192,28 +192,28 @@ module _ (name : Text) (arguments : List Argument) (table : IsTable arguments) w
     other_is (Some (x ∷ xs)) = first_is (slice_get (chars (x ∷ xs)) 0) (x ∷ xs) (length xs)
 
     looks_is : (l : Option (Text × Option Text))
-        → unless (turn_by idle false l word h i) (out (next_by idle false l word h i) rest) ≡ bind (settle_out h) (after (read_word arguments l (is_short_of (short_of word)) None word next i))
+        → unless (turn_by idle false l word h i) (out (next_by idle false l word h i) rest) ≡ bind (settle_out h) (after (read_word parameters l (is_short_of (short_of word)) None word next i))
     looks_is None = other_is (short_of word)
     looks_is (Some p) =
         ap (λ (found : Option Rule). unless (or_else (long_fault rules false found p.1 h) (step_fault s i (long_after found p.1).0 (long_after found p.1).1))
-        (out (after_step rules word (standing h idle i) (long_after found p.1).0 (long_after found p.1).1) rest)) (by_long arguments p.0)
-        ∙ long_is p.0 (find (is_named p.0) arguments) p.1 (λ a e. find_in (IsIn arguments) (is_named p.0) arguments a table e)
+        (out (after_step rules word (standing h idle i) (long_after found p.1).0 (long_after found p.1).1) rest)) (by_long parameters p.0)
+        ∙ long_is p.0 (find (is_named p.0) parameters) p.1 (λ a e. find_in (IsIn parameters) (is_named p.0) parameters a table e)
 
-    idle_word : is_dashes word ≡ false → out (standing h idle i) (word ∷ rest) ≡ bind (settle_out h) (after (reads arguments (word ∷ rest) None i))
+    idle_word : is_dashes word ≡ false → out (standing h idle i) (word ∷ rest) ≡ bind (settle_out h) (after (reads parameters (word ∷ rest) None i))
     unfolding reads
     idle_word e =
         out-word idle h i word rest ∙ ap (λ (d : Bool). unless (turn_by idle d (long_of word) word h i) (out (next_by idle d (long_of word) word h i) rest)) e ∙ looks_is (long_of word)
 
   -- ---- a word, where an option waits
 
-  module _ (word : Text) (rest : List Text) (ih : IdleIs rest) (a : Argument) (fit : IsIn arguments a) (takes : takes_values (rule_of a) ≡ true) (rows : List Row) (i : ℕ) where
+  module _ (word : Text) (rest : List Text) (ih : IdleIs rest) (a : Parameter) (fit : IsIn parameters a) (takes : takes_values (rule_of a) ≡ true) (rows : List Row) (i : ℕ) where
     abbrev waiting : Waiting
     waiting = awaiting (name_of a)
 
     abbrev held_none : Held
     held_none = held rows (Some (name_of a, []))
 
-    no_value : (b : Argument) → takes_values (rule_of b) ≡ true → used_by (rule_of b) [] rows ≡ None
+    no_value : (b : Parameter) → takes_values (rule_of b) ≡ true → used_by (rule_of b) [] rows ≡ None
     no_value (flag n) e = absurd cc
     no_value (option n values default) e = none_used n (Some n) None (option_to_list default) false n rows values
     no_value (place at n values required) e = none_used n None (Some at) [] required n rows values
@@ -239,32 +239,32 @@ module _ (name : Text) (arguments : List Argument) (table : IsTable arguments) w
     abbrev value_after : Option Rule → Held × Waiting
     value_after found = option_word found (name_of a) word held_none
 
-    given_word : (b : Argument) → takes_values (rule_of b) ≡ true
+    given_word : (b : Parameter) → takes_values (rule_of b) ≡ true
         → option_word (Some (rule_of b)) (name_of b) word (held rows (Some (name_of b, []))) ≡ (held rows (Some (name_of b, word ∷ [])), idle)
     given_word (flag n) e = absurd cc
     given_word (option n values default) e = rw (same_text n) refl
     given_word (place at n values required) e = rw (same_text n) refl
 
-    put_any : (b : Argument) → takes_values (rule_of b) ≡ true → (r : List Row) (us : Option (List Use)) → bind (used_by (rule_of b) (word ∷ []) r) (after us) ≡ after (put b word us) r
+    put_any : (b : Parameter) → takes_values (rule_of b) ≡ true → (r : List Row) (us : Option (List Use)) → bind (used_by (rule_of b) (word ∷ []) r) (after us) ≡ after (put b word us) r
     put_any (flag n) e r us = absurd cc
     put_any (option n values default) e r us = put_option n values default word r us
     put_any (place at n values required) e r us = put_place at n values required word r us
 
-    value_is : out (standing (value_after (arg_by_id rules (name_of a))).0 (value_after (arg_by_id rules (name_of a))).1 i) rest ≡ after (put a word (reads arguments rest None i)) rows
+    value_is : out (standing (value_after (arg_by_id rules (name_of a))).0 (value_after (arg_by_id rules (name_of a))).1 i) rest ≡ after (put a word (reads parameters rest None i)) rows
     value_is =
-        let us = reads arguments rest None i in
+        let us = reads parameters rest None i in
         ap (λ (m : Held × Waiting). out (standing m.0 m.1 i) rest) (ap value_after fit.found ∙ given_word a takes) ∙ ih rows (Some (name_of a, word ∷ [])) i
         ∙ ap (λ (o : Option (List Row)). bind o (after us)) (settle_pending a fit rows (word ∷ [])) ∙ put_any a takes rows us
 
     abbrev ValueIs : Kinds → Held × Step → Bool → Type 0
     ValueIs ks m short = unless (or_else ks (step_fault s i m.0 m.1)) (out (after_step rules word (standing held_none waiting i) m.0 m.1) rest)
-        ≡ after (read_word arguments None short (Some a) word (reads arguments rest) i) rows
+        ≡ after (read_word parameters None short (Some a) word (reads parameters rest) i) rows
 
     value_first : (c : Option ℕ) (f : Text) (k : ℕ)
         → ValueIs (bundle_step_fault rules false c f 0 held_none (flags_fault rules false k))
         (after_flag rules waiting word (bundle_step rules c f 0 outcome_plain held_none (bundle_met rules k)).0 (bundle_step rules c f 0 outcome_plain held_none (bundle_met rules k)).1) (is_some c)
     value_first None f k = value_is
-    value_first (Some x) f k = refused_char (arg_by_short rules x) (by_short arguments x)
+    value_first (Some x) f k = refused_char (arg_by_short rules x) (by_short parameters x)
       where
         refused_char : (found : Option Rule) → found ≡ None
             → ValueIs (short_fault rules false found (drop (length (encode_utf8 x)) f) held_none (flags_fault rules false k (drop (length (encode_utf8 x)) f) 0))
@@ -282,7 +282,7 @@ module _ (name : Text) (arguments : List Argument) (table : IsTable arguments) w
 
     value_looks : (l : Option (Text × Option Text))
         → unless (turn_by waiting false l word held_none i) (out (next_by waiting false l word held_none i) rest)
-        ≡ after (read_word arguments l (option_map_or (λ f. is_some (slice_get (chars f) 0)) (short_of word) false) (Some a) word (reads arguments rest) i) rows
+        ≡ after (read_word parameters l (option_map_or (λ f. is_some (slice_get (chars f) 0)) (short_of word) false) (Some a) word (reads parameters rest) i) rows
     value_looks None = value_other (short_of word)
     value_looks (Some p) =
         let m = long_met rules (arg_by_long rules p.0) p.1 held_none in
@@ -291,7 +291,7 @@ module _ (name : Text) (arguments : List Argument) (table : IsTable arguments) w
         unless-or (long_fault rules false (arg_by_long rules p.0) p.1 held_none) (step_fault s i stands.0 stands.1) o
         ∙ no_long (arg_by_long rules p.0) p.1 (unless (step_fault s i stands.0 stands.1) o)
 
-    wait_word : is_dashes word ≡ false → out (standing held_none waiting i) (word ∷ rest) ≡ after (reads arguments (word ∷ rest) (Some a) i) rows
+    wait_word : is_dashes word ≡ false → out (standing held_none waiting i) (word ∷ rest) ≡ after (reads parameters (word ∷ rest) (Some a) i) rows
     unfolding reads
     wait_word e =
         out-word waiting held_none i word rest ∙ ap (λ (d : Bool). unless (turn_by waiting d (long_of word) word held_none i) (out (next_by waiting d (long_of word) word held_none i) rest)) e
@@ -310,7 +310,8 @@ module _ (name : Text) (arguments : List Argument) (table : IsTable arguments) w
       ends : (o : Option (List Row)) → o ≡ bind o (λ r. Some r)
       ends None = refl
       ends (Some r) = refl
-      none_for : (b : Argument) → takes_values (rule_of b) ≡ true → (rows : List Row) → used_by (rule_of b) [] rows ≡ None
+
+      none_for : (b : Parameter) → takes_values (rule_of b) ≡ true → (rows : List Row) → used_by (rule_of b) [] rows ≡ None
       none_for (flag n) e rows = absurd cc
       none_for (option n values default) e rows = none_used n (Some n) None (option_to_list default) false n rows values
       none_for (place at n values required) e rows = none_used n None (Some at) [] required n rows values
@@ -319,12 +320,11 @@ module _ (name : Text) (arguments : List Argument) (table : IsTable arguments) w
   walks [] e = no_words
   walks (word ∷ rest) e =
       let each = first_false (is_dashes word) (list_any is_dashes rest) e in
-      let behind = walks rest each.1 in
-      (
+      let behind = walks rest each.1 in (
         λ rows pending i. idle_word word rest behind.0 behind.1 rows pending i each.0,
         λ a fit takes rows i. wait_word word rest behind.0 a fit takes rows i each.0,
       )
 
   -- the rows at the end of a line are those of its uses
-  pub line_walked : (words : List Text) → list_any is_dashes words ≡ false → out (standing (held [] None) idle 1) words ≡ after (reads arguments words None 1) []
+  pub line_walked : (words : List Text) → list_any is_dashes words ≡ false → out (standing (held [] None) idle 1) words ≡ after (reads parameters words None 1) []
   line_walked words e = (walks words e).0 [] None 1

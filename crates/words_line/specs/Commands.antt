@@ -11,7 +11,7 @@ use Rattle.words_line.specs.declared.plan.WordsError.{WordsError}
 use Rattle.words_line.specs.declared.plan.WordsError.TheVariants.{Fault, Memory}
 use Rattle.words_line.specs.declared.table.Kind.{Kind}
 use Rattle.words_line.specs.declared.table.Kind.TheVariants as kinds
-use Rattle.words_line.specs.Lines.{Argument, Use, gen_arguments, lift_arguments, plan_of_uses, reads, run_arguments}
+use Rattle.words_line.specs.Lines.{Parameter, Use, gen_parameters, lift_parameters, plan_of_uses, reads, run_parameters}
 use Rattle.words_line.specs.Plans.{gen_plan, given, lift_plan, run_plan}
 use Rattle.words_line.specs.Rules.{gen_app, lift_app, run_app}
 
@@ -19,19 +19,19 @@ use Rattle.words_line.specs.Rules.{gen_app, lift_app, run_app}
 abbrev pub texts : {Y : Type 0} → List (String Y) → List Text
 texts words = map (λ word. string_bytes word) words
 
--- a command: its word; what it takes before the first `--`, as clap's rules and as arguments; whether further words may
+-- a command: its word; what it takes before the first `--`, as clap's rules and as parameters; whether arguments may
 -- stand behind that; and the plan by those and by the value of each name
 pub record CommandRow : Type 0 where
   pub word : Text
   pub app : App
-  pub arguments : List Argument
+  pub parameters : List Parameter
   pub has_arguments : Bool
   pub plan : List Text → (Text → Option Text) → Plan
 
 abbrev pub row_of : Kind → CommandRow
-row_of kinds.Lift = record { word = codes "lift"; app = lift_app; arguments = lift_arguments; has_arguments = false; plan = λ _. lift_plan }
-row_of kinds.Run = record { word = codes "run"; app = run_app; arguments = run_arguments; has_arguments = true; plan = run_plan }
-row_of kinds.Gen = record { word = codes "gen"; app = gen_app; arguments = gen_arguments; has_arguments = false; plan = λ _. gen_plan }
+row_of kinds.Lift = record { word = codes "lift"; app = lift_app; parameters = lift_parameters; has_arguments = false; plan = λ _. lift_plan }
+row_of kinds.Run = record { word = codes "run"; app = run_app; parameters = run_parameters; has_arguments = true; plan = run_plan }
+row_of kinds.Gen = record { word = codes "gen"; app = gen_app; parameters = gen_parameters; has_arguments = false; plan = λ _. gen_plan }
 
 abbrev pub commands : List Kind
 commands = kinds.Lift ∷ kinds.Run ∷ kinds.Gen ∷ []
@@ -73,7 +73,7 @@ plan_of (word ∷ rest) = plan_or_unknown (command_of word) (word ∷ rest)
 
 -- the uses that the words before the first `--` make, after the command's own
 abbrev pub uses_of : CommandRow → List Text → Option (List Use)
-uses_of row words = reads row.arguments (drop 1 (take (dashes_at words) words)) None 1
+uses_of row words = reads row.parameters (drop 1 (take (dashes_at words) words)) None 1
 
 -- the words behind the first `--`
 abbrev pub args_of : List Text → List Text
@@ -81,14 +81,14 @@ args_of words = drop (dashes_at words + 1) words
 
 -- the plan of a line, read apart from clap
 abbrev pub plan_read_by : CommandRow → List Text → Result Plan WordsFault
-plan_read_by row words = if is_refused row words then Err Line else plan_of_uses row.arguments (uses_of row words) (row.plan (args_of words))
+plan_read_by row words = if is_refused row words then Err Line else plan_of_uses row.parameters (uses_of row words) (row.plan (args_of words))
 
 abbrev pub read_or_unknown : Option Kind → List Text → Result Plan WordsFault
 read_or_unknown None words = Err UnknownCommand
 read_or_unknown (Some kind) words = plan_read_by (row_of kind) words
 
 -- the plan of the words, read apart from clap, or what is wrong with them
-abbrev pub plan_read : List Text → Result Plan WordsFault
+unfoldable pub plan_read : List Text → Result Plan WordsFault
 plan_read [] = Err NoCommand
 plan_read (word ∷ rest) = read_or_unknown (command_of word) (word ∷ rest)
 

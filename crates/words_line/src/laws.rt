@@ -9,11 +9,9 @@ ghost use Rattle.words_line.specs.Commands.{AreReordered, command_of, plan_of, p
 /// the plan is that of the uses read: all words have the plan, or the fault, that they have without clap.
 pub fn words_are_read()
     ensures { (words : List Text) → plan_of words ≡ plan_read words }
-{
-}
+{}
 
 /// Two orders of the same uses make one plan.
 pub fn uses_in_any_order()
     ensures { (word : Text) (kind : Kind) (words others : List Text) → command_of word ≡ Some kind → AreReordered (row_of kind) (word ∷ words) (word ∷ others) → plan_of (word ∷ words) ≡ plan_of (word ∷ others) }
-{
-}
+{}
