@@ -1,5 +1,5 @@
 -- What clap finds on a line without a fault, by its uses.
-use Rattle.std.proofs.Common.{◌≡◌, ℕ, ◌+◌, Bool, true, false, not, cond, ◌&&◌, ◌||◌, List, [], ◌∷◌, ◌++◌, map, fold, Option, Some, None, option_map, codes, is_some, refl, sym, ap, subst, ◌∙◌, append_assoc}
+use Rattle.std.proofs.Common.{◌≡◌, Bool, true, false, not, cond, ◌&&◌, ◌||◌, List, [], ◌∷◌, ◌++◌, map, fold, Option, Some, None, option_map, codes, is_some, refl, sym, ap, subst, ◌∙◌, append_assoc}
 use Rattle.std.specs.Prelude.{find, option_and_then, option_to_list, if◌then◌else◌, slice_get}
 use Rattle.std.specs.List.{list_all, list_any}
 use Rattle.std.specs.Option.{option_map_or, option_or}
@@ -8,14 +8,14 @@ use Rattle.std.proofs.lemmas.List.Folds.{find-append}
 use Rattle.std.proofs.lemmas.Slice.Eq.{bytes_eq-Decides}
 use Rattle.clap.specs.Facts.{explicit_source}
 use Rattle.clap.specs.Words.{Row, Rule, Text, first_of}
-use Rattle.clap.specs.Walk.{default_rows, has_row, is_empty, more_values, reading_by, with_default}
+use Rattle.clap.specs.Walk.{default_rows, has_row, more_values, reading_by, with_default}
 use Rattle.clap.specs.Takes.{is_given as is_given_row}
 use Rattle.clap.specs.Faults.{default_fault, defaults_fault, given_default_fault}
 use Rattle.clap.specs.Kinds.{Kinds}
 use Rattle.clap.specs.ValueTests.{is_unsigned_in}
 use Rattle.clap.specs.declared.builder.value_parser.Reading.{Reading}
 use Rattle.clap.specs.declared.parser.matches.ValueSource.TheVariants.{DefaultValue}
-use Rattle.words_line.specs.Lines.{Parameter, Use, Values, any, default_of, defaults, flag, is_complete, is_given, is_once, is_required, name_of, numbers, option, place, takes, use_if, value_of}
+use Rattle.words_line.specs.Lines.{Parameter, Use, any, default_of, defaults, flag, is_complete, is_given, is_once, is_required, name_of, numbers, option, place, use_if, value_of}
 use Rattle.words_line.proofs.Tables.{Each, IsIn, rule_of}
 use Rattle.words_line.proofs.Rows.{append-none, applied, at_row-new, row_of}
 

@@ -1,5 +1,5 @@
 -- Two orders of the same uses make one plan.
-use Rattle.std.proofs.Common.{◌≡◌, ℕ, ◌+◌, ◌≤◌, Bool, true, false, not, cond, ◌&&◌, ◌||◌, List, [], ◌∷◌, ◌++◌, Option, Some, None, option_map, Result, Ok, Err, refl, sym, ap, subst, ◌∙◌, arith}
+use Rattle.std.proofs.Common.{◌≡◌, ℕ, ◌+◌, ◌≤◌, Bool, true, false, not, cond, ◌&&◌, ◌||◌, List, [], ◌∷◌, ◌++◌, Option, Some, None, option_map, Ok, Err, refl, sym, ap, subst, ◌∙◌, arith}
 use Rattle.std.specs.Prelude.{find, if◌then◌else◌, sum_by, IsPermutation}
 use Rattle.std.specs.List.{list_all, list_any}
 use Rattle.std.specs.Option.{option_or}
@@ -9,7 +9,6 @@ use Rattle.std.proofs.lemmas.List.Sums.{sum_by-cons}
 use Rattle.std.proofs.lemmas.Slice.Eq.{bytes_eq-Decides}
 use Rattle.clap.specs.Words.{Text}
 use Rattle.words_line.specs.declared.plan.Plan.{Plan}
-use Rattle.words_line.specs.declared.plan.WordsFault.{WordsFault}
 use Rattle.words_line.specs.declared.plan.WordsFault.TheVariants.{Line}
 use Rattle.words_line.specs.declared.table.Kind.{Kind}
 use Rattle.words_line.specs.Commands.{AreReordered, CommandRow, args_of, command_of, is_refused, plan_of, plan_read, plan_read_by, read_or_unknown, row_of, uses_of}

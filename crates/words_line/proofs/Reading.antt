@@ -1,27 +1,26 @@
 -- A line as clap takes it is the line as it is read apart from clap.
-use Rattle.std.proofs.Common.{◌≡◌, ℕ, ◌+◌, Bool, true, false, not, cond, ◌&&◌, ◌||◌, List, [], ◌∷◌, ◌++◌, map, fold, length, take, drop, Option, Some, None, Result, Ok, Err, codes, refl, sym, ap, subst, ◌∙◌, arith, ne_eqb}
-use Rattle.std.specs.Prelude.{find, if◌then◌else◌, zero, suc}
-use Rattle.std.specs.List.{list_all, list_any}
+use Rattle.std.proofs.Common.{◌≡◌, ℕ, ◌+◌, Bool, true, false, not, cond, ◌&&◌, ◌||◌, List, [], ◌∷◌, ◌++◌, map, fold, length, take, drop, Option, Some, None, Result, Ok, Err, codes, refl, sym, ap, ◌∙◌, arith, ne_eqb}
+use Rattle.std.specs.Prelude.{if◌then◌else◌, suc}
+use Rattle.std.specs.List.{list_any}
 use Rattle.clap.specs.Words.{App, Row, Rule, Text}
-use Rattle.clap.specs.Walk.{finished, idle, is_empty, nothing_held, rows_after, settled, walk, walked, with_default}
+use Rattle.clap.specs.Walk.{finished, idle, is_empty, nothing_held, rows_after, settled, walk, with_default}
 use Rattle.clap.specs.Takes.{is_given as is_given_row}
-use Rattle.clap.specs.Faults.{built_fault, check_fault, defaults_fault, level_fault, settle_fault, walk_fault}
+use Rattle.clap.specs.Faults.{built_fault, check_fault, defaults_fault, settle_fault, walk_fault}
 use Rattle.clap.specs.Kinds.{Kinds, check_kinds, or_else}
 use Rattle.clap.proofs.FaultLemmas.{leaf_fault}
 use Rattle.words_line.specs.declared.plan.Plan.{Plan}
 use Rattle.words_line.specs.declared.plan.WordsFault.{WordsFault}
-use Rattle.words_line.specs.declared.plan.WordsFault.TheVariants.{NoCommand, UnknownCommand, Line}
+use Rattle.words_line.specs.declared.plan.WordsFault.TheVariants.{Line}
 use Rattle.words_line.specs.declared.table.Kind.{Kind}
 use Rattle.words_line.specs.declared.table.Kind.TheVariants as kinds
 use Rattle.words_line.specs.Commands.{args_of, command_of, dashes_at, is_dashes, is_refused, line_of, plan_by, plan_of, plan_or_unknown, plan_read, plan_read_by, read_or_unknown, row_of}
 use Rattle.words_line.specs.Lines.{Parameter, Use, defaults, gen_parameters, is_complete, is_once, lift_parameters, plan_of_uses, reads, run_parameters, value_of}
 use Rattle.words_line.specs.Plans.{given}
-use Rattle.words_line.specs.Rules.{gen_app, lift_app, run_app}
 use Rattle.words_line.proofs.Tables.{IsTable, gen_table, lift_table, rule_of, run_table, shape}
-use Rattle.words_line.proofs.Rows.{after, applied, unless}
+use Rattle.words_line.proofs.Rows.{after, unless}
 use Rattle.words_line.proofs.Rows.{row_of as use_row}
 use Rattle.words_line.proofs.Found.{all_rows, applied_from_none, complete_is, given_is, no_default_fault, value_is}
-use Rattle.words_line.proofs.Walking.{held, line_walked, out, rules, standing}
+use Rattle.words_line.proofs.Walking.{held, line_walked, out, standing}
 
 not_empty : {X : Type 0} (x : X) (xs : List X) → is_empty (x ∷ xs) ≡ false
 not_empty x xs = ne_eqb (length (x ∷ xs)) 0 (omega arith)

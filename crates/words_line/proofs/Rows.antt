@@ -1,16 +1,15 @@
 -- Clap's rows, by the uses of a line.
-use Rattle.std.proofs.Common.{◌≡◌, ℕ, ◌+◌, Bool, true, false, not, cond, ◌&&◌, ◌||◌, List, [], ◌∷◌, ◌++◌, map, fold, Option, Some, None, option_map, codes, refl, sym, ap, subst, ◌∙◌}
-use Rattle.std.specs.Prelude.{find, option_and_then, option_to_list, if◌then◌else◌}
-use Rattle.std.specs.List.{list_any}
+use Rattle.std.proofs.Common.{◌≡◌, ℕ, Bool, true, false, cond, ◌||◌, List, [], ◌∷◌, ◌++◌, Option, Some, None, option_map, codes, refl, ap, ◌∙◌}
+use Rattle.std.specs.Prelude.{option_and_then, option_to_list, if◌then◌else◌}
 use Rattle.std.specs.Str.{bytes_eq}
 use Rattle.clap.specs.Words.{Row, Rule, Text}
 use Rattle.clap.specs.Walk.{at_row, has_row, used, without}
 use Rattle.clap.specs.Faults.{use_fault}
-use Rattle.clap.specs.Kinds.{Kinds, or_else, values_kinds}
+use Rattle.clap.specs.Kinds.{Kinds, or_else}
 use Rattle.clap.specs.declared.builder.value_parser.Reading.TheVariants.{AsWritten}
-use Rattle.clap.specs.declared.parser.matches.ValueSource.TheVariants.{CommandLine, DefaultValue}
-use Rattle.words_line.specs.Lines.{Parameter, Use, Values, any, flag, name_of, numbers, option, place, put, takes, values_of}
-use Rattle.words_line.proofs.Tables.{parser_of, rule_of, valued}
+use Rattle.clap.specs.declared.parser.matches.ValueSource.TheVariants.{CommandLine}
+use Rattle.words_line.specs.Lines.{Parameter, Use, Values, any, flag, name_of, numbers, option, place, put, takes}
+use Rattle.words_line.proofs.Tables.{rule_of, valued}
 
 -- ---- what a fault leaves
 

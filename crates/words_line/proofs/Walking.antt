@@ -1,6 +1,6 @@
 -- Clap's walk over the words of a line, by the uses that are read of it.
-use Rattle.std.proofs.Common.{◌≡◌, ℕ, ◌+◌, ◌<◌, ◌≤◌, Bool, true, false, not, cond, ◌&&◌, ◌||◌, List, [], ◌∷◌, ◌++◌, map, fold, length, min, Option, Some, None, option_map, is_some, codes, refl, sym, ap, subst, ◌∙◌, arith}
-use Rattle.std.specs.Prelude.{drop, encode_utf8, find, if◌then◌else◌, nat_lt, option_to_list, slice_get, zero, suc}
+use Rattle.std.proofs.Common.{◌≡◌, ℕ, ◌+◌, ◌<◌, Bool, true, false, ◌&&◌, ◌||◌, List, [], ◌∷◌, map, fold, length, min, Option, Some, None, option_map, is_some, codes, refl, sym, ap, ◌∙◌, arith}
+use Rattle.std.specs.Prelude.{drop, encode_utf8, find, if◌then◌else◌, option_to_list, slice_get}
 use Rattle.std.specs.List.{list_any}
 use Rattle.std.specs.Option.{option_map_or}
 use Rattle.std.specs.Str.{bytes_eq, chars}
@@ -11,9 +11,9 @@ use Rattle.clap.specs.Walk.{Held, Outcome, Step, Waiting, Walk, after_flag, afte
 use Rattle.clap.specs.Walk.{option as awaiting, plain as outcome_plain}
 use Rattle.clap.specs.Faults.{bundle_fault, bundle_step_fault, flag_word_fault, flags_fault, long_fault, option_fault, positional_fault, react_fault, settle_fault, short_fault, step_fault, stray_fault, turn_fault, use_fault, walk_fault}
 use Rattle.clap.specs.Kinds.{Kinds, or_else}
-use Rattle.clap.specs.declared.error.kind.ErrorKind.TheVariants.{TooManyValues, UnknownArgument}
+use Rattle.clap.specs.declared.error.kind.ErrorKind.TheVariants.{TooManyValues}
 use Rattle.words_line.specs.Commands.{is_dashes}
-use Rattle.words_line.specs.Lines.{Parameter, Rest, Use, Values, flag, is_at, is_named, name_of, option, place, put, read_named, read_placed, read_word, reads}
+use Rattle.words_line.specs.Lines.{Parameter, Rest, Use, flag, is_at, is_named, name_of, option, place, put, read_named, read_placed, read_word, reads}
 use Rattle.words_line.proofs.Tables.{IsIn, IsTable, by_index, by_long, by_short, find_in, rule_of, shape}
 use Rattle.words_line.proofs.Rows.{after, bind, bind-none, bind-unless, none_used, put_flag, put_option, put_place, unless, unless-or, used_by}
 

@@ -7,7 +7,7 @@ use Rattle.std.proofs.lemmas.Bool.{le-ltb, lt-ltb, ltb-false, ltb-true}
 use Rattle.std.specs.Prelude.{slice_get}
 use borrow.Author.Count.{below_more}
 use Rattle.clap.proofs.WalkLemmas.{first_value-rows}
-use Rattle.clap.specs.Words.{App, Row, Text, fault_of, first_of, first_value, found_of, is_simple_and_free, matches_of, rows_of}
+use Rattle.clap.specs.Words.{App, Text, fault_of, first_of, first_value, found_of, is_simple_and_free, matches_of, rows_of}
 use Rattle.clap.specs.Walk.{is_empty}
 use Rattle.clap.specs.declared.parser.matches.ArgMatches.{ArgMatches}
 use Rattle.words_line.specs.declared.plan.Plan.{Plan}
