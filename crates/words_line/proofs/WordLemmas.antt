@@ -7,7 +7,7 @@ use Rattle.std.proofs.lemmas.Bool.{le-ltb, lt-ltb, ltb-false, ltb-true}
 use Rattle.std.specs.Prelude.{slice_get}
 use borrow.Author.Count.{below_more}
 use Rattle.clap.proofs.WalkLemmas.{first_value-rows}
-use Rattle.clap.specs.Words.{App, Row, Text, fault_of, first_of, first_value, found_of, is_simple_and_free, matches_of, rows_of}
+use Rattle.clap.specs.Words.{App, Text, fault_of, first_of, first_value, found_of, is_simple_and_free, matches_of, rows_of}
 use Rattle.clap.specs.Walk.{is_empty}
 use Rattle.clap.specs.declared.parser.matches.ArgMatches.{ArgMatches}
 use Rattle.words_line.specs.declared.plan.Plan.{Plan}
@@ -18,6 +18,7 @@ use Rattle.words_line.specs.declared.table.Kind.TheVariants as kinds
 use Rattle.words_line.specs.declared.plan.WordsError.{WordsError}
 use Rattle.words_line.specs.declared.plan.WordsError.TheVariants.{Fault, Memory}
 use Rattle.words_line.specs.Commands.{AnswersBy, CommandRow, IsBadLine, command_of, dashes_at, is_dashes, is_refused, line_of, plan_by, plan_of, plan_or_unknown, row_of, texts}
+use Rattle.words_line.specs.Plans.{given}
 
 -- the first value of a name, by the rows
 pub first_here : (m : ArgMatches) (id : Text) → first_value (found_of m) id ≡ first_of id (rows_of (found_of m))
@@ -104,11 +105,11 @@ plan_refused row words e = ap (λ (b : Bool). cond b (Err Line) (line_of row.app
 pub plan_line : (row : CommandRow) (words : List Text) → is_refused row words ≡ false → plan_by row words ≡ line_of row.app (take (dashes_at words) words) (row.plan (drop (dashes_at words + 1) words))
 plan_line row words e = ap (λ (b : Bool). cond b (Err Line) (line_of row.app (take (dashes_at words) words) (row.plan (drop (dashes_at words + 1) words)))) e
 
-pub line_read : (app : App) (words : List Text) (plan : List Row → Plan) → fault_of app words ≡ [] → line_of app words plan ≡ Ok (plan (matches_of app words))
-line_read app words plan e = ap (λ (b : Bool). cond b (Ok (plan (matches_of app words))) (Err Line)) (ap is_empty e)
+pub line_read : (app : App) (words : List Text) (plan : (Text → Option Text) → Plan) → fault_of app words ≡ [] → line_of app words plan ≡ Ok (plan (given (matches_of app words)))
+line_read app words plan e = ap (λ (b : Bool). cond b (Ok (plan (given (matches_of app words)))) (Err Line)) (ap is_empty e)
 
-pub line_bad : (app : App) (words : List Text) (plan : List Row → Plan) → is_empty (fault_of app words) ≡ false → line_of app words plan ≡ Err Line
-line_bad app words plan e = ap (λ (b : Bool). cond b (Ok (plan (matches_of app words))) (Err Line)) e
+pub line_bad : (app : App) (words : List Text) (plan : (Text → Option Text) → Plan) → is_empty (fault_of app words) ≡ false → line_of app words plan ≡ Err Line
+line_bad app words plan e = ap (λ (b : Bool). cond b (Ok (plan (given (matches_of app words)))) (Err Line)) e
 
 -- where clap refuses the line, the error is the line's, but for want of memory
 pub bad_answer : (words : Result Plan WordsFault) (no_fault : Bool) (e : WordsError) → (no_fault ≡ false → words ≡ Err Line) → IsBadLine no_fault e → AnswersBy words (Err e)

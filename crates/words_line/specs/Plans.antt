@@ -1,4 +1,4 @@
--- The plan of a line by clap's matches.
+-- The plan of a line by the value of each name, as clap's matches have it.
 use Rattle.std.specs.Prelude.{ℕ, ◌≤◌, Bool, false, List, [], Option, Some, None, unwrap_or, if◌then◌else◌, codes, ⊤}
 use Rattle.std.specs.Option.{option_map_or}
 use Rattle.std.specs.Str.{bytes_eq}
@@ -8,13 +8,23 @@ use Rattle.clap.specs.ValueTests.{is_unsigned_in}
 use Rattle.words_line.specs.declared.plan.Plan.{Plan}
 use Rattle.words_line.specs.declared.plan.Plan.TheVariants.{Lift, Run, Gen}
 
--- the text of a name that is given
+-- the first value of each name
+abbrev pub given : List Row → Text → Option Text
+given rows id = first_of id rows
+
+-- the text that is given
+abbrev pub text_of : Option Text → Text
+text_of t = unwrap_or t []
+
 abbrev pub text_at : Text → List Row → Text
-text_at id rows = unwrap_or (first_of id rows) []
+text_at id rows = text_of (first_of id rows)
 
 -- the flag stands
+abbrev pub is_set : Option Text → Bool
+is_set t = option_map_or (λ t. bytes_eq t (codes "true")) t false
+
 abbrev pub flag_at : Text → List Row → Bool
-flag_at id rows = option_map_or (λ t. bytes_eq t (codes "true")) (first_of id rows) false
+flag_at id rows = is_set (first_of id rows)
 
 -- the number that the text spells, where it is one from low to high: clap lets no other pass
 abbrev pub number_in : ℕ → ℕ → Option Text → ℕ
@@ -24,16 +34,19 @@ number_in low high (Some t) = if is_unsigned_in low high t then digits_value 10 
 abbrev pub number_at : ℕ → ℕ → Text → List Row → ℕ
 number_at low high id rows = number_in low high (first_of id rows)
 
-abbrev pub lift_plan : List Row → Plan
-lift_plan rows = Lift (text_at (codes "prog") rows) (first_of (codes "base") rows) (first_of (codes "misses") rows)
+-- the plans, by the value of each name
 
-abbrev pub run_plan : List Text → List Row → Plan
-run_plan args rows =
-    Run (text_at (codes "prog") rows) (first_of (codes "ir") rows) (flag_at (codes "strict") rows) (flag_at (codes "serial") rows) (number_at 1 65536 (codes "turn") rows) (number_at 0 255 (codes "hold") rows)
-    (number_at 1 134217728 (codes "steps") rows) (first_of (codes "report") rows) (first_of (codes "journal") rows) args
+abbrev pub lift_plan : (Text → Option Text) → Plan
+lift_plan value = Lift (text_of (value (codes "prog"))) (value (codes "base")) (value (codes "misses"))
 
-abbrev pub gen_plan : List Row → Plan
-gen_plan rows = Gen (number_at 0 4294967295 (codes "number") rows) (number_at 1 63 (codes "threads") rows) (number_at 1 1000000 (codes "rounds") rows) (text_at (codes "name") rows)
+abbrev pub run_plan : List Text → (Text → Option Text) → Plan
+run_plan args value =
+    Run (text_of (value (codes "prog"))) (value (codes "ir")) (is_set (value (codes "strict"))) (is_set (value (codes "serial"))) (number_in 1 65536 (value (codes "turn"))) (number_in 0 255 (value (codes "hold")))
+    (number_in 1 134217728 (value (codes "steps"))) (value (codes "report")) (value (codes "journal")) args
+
+abbrev pub gen_plan : (Text → Option Text) → Plan
+gen_plan value =
+    Gen (number_in 0 4294967295 (value (codes "number"))) (number_in 1 63 (value (codes "threads"))) (number_in 1 1000000 (value (codes "rounds"))) (text_of (value (codes "name")))
 
 -- the plan's numbers are in their ranges
 abbrev pub IsInRange : Plan → Type 0

@@ -69,7 +69,7 @@ fn shown(alloc: Global, plan: &Plan) -> Result<String, AllocError> {
 
 #[test]
 fn reads_lines(rt: HostRuntime) {
-    let rows: [(&[&str], &str); 44] = [
+    let rows: [(&[&str], &str); 45] = [
         (&[], "no command"),
         (&["walk"], "unknown"),
         (&["", "p1"], "unknown"),
@@ -147,6 +147,7 @@ fn reads_lines(rt: HostRuntime) {
         (&["run", "p1", "--serial", "--serial"], "line"),
         (&["run", "p1", "i", "k"], "line"),
         (&["run", "-p1"], "line"),
+        (&["run", "--strict", "-p1"], "line"),
         (&["run", "p1", "-h"], "line"),
         (
             &["run", "help"],

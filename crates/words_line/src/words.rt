@@ -3,7 +3,7 @@ ghost use Rattle.std.specs.Prelude.{◌≡◌, ◌≤◌, ◌+◌, IfOk, IfErr, 
 ghost use Rattle.clap.specs.Words.{app_of, fault_of, first_of, found_of, is_simple_and_free, matches_of, rows_of};
 ghost use Rattle.clap.specs.Walk.{is_empty};
 ghost use Rattle.words_line.specs.Commands.{AnswersBy, IsBadLine, dashes_at, is_refused, plan_by, plan_of, row_of, texts};
-ghost use Rattle.words_line.specs.Plans.{IsInRange, flag_at, gen_plan, lift_plan, number_at, run_plan, text_at};
+ghost use Rattle.words_line.specs.Plans.{IsInRange, flag_at, gen_plan, given, lift_plan, number_at, run_plan, text_at};
 
 use crate::plan::{Plan, Text, Texts, WordsError, WordsFault};
 use crate::table::Kind;
@@ -118,7 +118,7 @@ fn plan(
     matches: &ArgMatches<'_>,
     args: &[String],
 ) -> Result<Plan, AllocError>
-    ensures plan { IfOk result (λ p. p ≡ (row_of kind).plan (texts args.now) (rows_of (found_of matches.now))) }
+    ensures plan { IfOk result (λ p. p ≡ (row_of kind).plan (texts args.now) (given (rows_of (found_of matches.now)))) }
     ensures range { IfOk result IsInRange }
 {
     match kind {
@@ -129,7 +129,7 @@ fn plan(
 }
 
 fn lift_plan(alloc: Global, matches: &ArgMatches<'_>) -> Result<Plan, AllocError>
-    ensures plan { IfOk result (λ p. p ≡ lift_plan (rows_of (found_of matches.now))) }
+    ensures plan { IfOk result (λ p. p ≡ lift_plan (given (rows_of (found_of matches.now)))) }
     ensures range { IfOk result IsInRange }
 {
     let prog = text_at(alloc, matches, "prog")?;
@@ -139,7 +139,7 @@ fn lift_plan(alloc: Global, matches: &ArgMatches<'_>) -> Result<Plan, AllocError
 }
 
 fn run_plan(alloc: Global, matches: &ArgMatches<'_>, args: &[String]) -> Result<Plan, AllocError>
-    ensures plan { IfOk result (λ p. p ≡ run_plan (texts args.now) (rows_of (found_of matches.now))) }
+    ensures plan { IfOk result (λ p. p ≡ run_plan (texts args.now) (given (rows_of (found_of matches.now)))) }
     ensures range { IfOk result IsInRange }
 {
     let prog = text_at(alloc, matches, "prog")?;
@@ -165,7 +165,7 @@ fn run_plan(alloc: Global, matches: &ArgMatches<'_>, args: &[String]) -> Result<
 }
 
 fn gen_plan(alloc: Global, matches: &ArgMatches<'_>) -> Result<Plan, AllocError>
-    ensures plan { IfOk result (λ p. p ≡ gen_plan (rows_of (found_of matches.now))) }
+    ensures plan { IfOk result (λ p. p ≡ gen_plan (given (rows_of (found_of matches.now)))) }
     ensures range { IfOk result IsInRange }
 {
     let name = text_at(alloc, matches, "name")?;
