@@ -1,0 +1,4 @@
+pub mod Exits
+pub mod Search
+pub mod Kept
+pub mod Lent
