@@ -34,7 +34,7 @@ use Rattle.lift_table.specs.Follow.{Lifts}
 use Rattle.lift_table.specs.Faithful.{block_parts, lifted_all, takes_answer}
 use Rattle.basic_blocks.specs.Bytes.{bytes_of, front}
 use Rattle.lift_table.specs.Block.{IsFaithful, IsFaithfulTo, block_of, lifted_block}
-use Rattle.block_lift.specs.Liftable.{ArePlaced, CountFits, IsPlaced}
+use Rattle.block_lift.specs.Liftable.{ArePlaced, IsPlaced}
 use Rattle.block_lift.specs.Steps.{going_on, unstripped, unstripped_block}
 use Rattle.block_lift.proofs.Following.{AreRun, IsWhole, LeadsTo, WantsAt, are_faithful}
 use Rattle.block_lift.proofs.Ready.{Typed, kinds}
@@ -92,8 +92,8 @@ pub pushed_parts : (a : ℕ) (x : Instr × ℕ) (new old : List Part) (ps : List
 pushed_parts a x new old ps h =
     ap (λ (l : List Part). l ++ lifted_all ps) h ∙ append_assoc old (lifted x.0 ((a + x.1) % 2 ^ 64)) (lifted_all ps)
 
-pub placed_one : (a : ℕ) (x : Instr × ℕ) → InstrFits x.0 → CountFits x.0 → IsPlaced (placed a x)
-placed_one a x fits count = record { instr = record { fits = fits; count = count }; next = omega arith }
+pub placed_one : (a : ℕ) (x : Instr × ℕ) → InstrFits x.0 → IsPlaced (placed a x)
+placed_one a x fits = record { instr = fits; next = omega arith }
 
 -- ---- the loop over 64 instructions
 
@@ -190,7 +190,7 @@ AllLift = (i : Instr) (next : ℕ) → InstrFits i → Lifts i next
 are_run : AllLift → (wants : Cpu → Want) (is : List Placed) → Chained wants is → AreRun wants is
 are_run lifts wants [] h = tt
 are_run lifts wants (i ∷ is) h =
-    (h.0, lifts i.instr i.next h.1.instr.fits, whole _ (lifted i.instr i.next) (is_transfer i.instr) i.next is (placed_good i None None None None None None None None h.1) h.2, are_run lifts wants is h.3)
+    (h.0, lifts i.instr i.next h.1.instr, whole _ (lifted i.instr i.next) (is_transfer i.instr) i.next is (placed_good i None None None None None None None None h.1) h.2, are_run lifts wants is h.3)
 
 faithful_to : (image : ImageData) (a : ℕ) (is : List Placed) → AreRun (want image) is → IsFaithfulTo image (block_of image a is) is
 faithful_to image a [] h = refl

@@ -31,14 +31,13 @@ use Rattle.x86_forms.specs.declared.operands.Operand.TheVariants as operand
 use Rattle.x86_forms.specs.declared.operands.Width.{Width}
 use Rattle.x86_forms.specs.declared.operands.Width.TheVariants.{W8, W16, W32, W64}
 use Rattle.x86_forms.specs.Groups.{is_memory, is_transfer}
-use Rattle.x86_forms.specs.Limits.{CanLock, CanLockOne, IsOver8, IsWide, MemFits, OperandFits, PairFits, PlaceFits, RegisterFits, ShiftFits, Widens, is_immediate}
+use Rattle.x86_forms.specs.Limits.{CanLock, CanLockOne, IsOver8, IsWide, MemFits, OperandFits, PairFits, PlaceFits, RegisterFits, ShiftFits, IsCount, InstrFits, Widens, is_immediate}
 use Rattle.x86_forms.specs.Widths.{bits_in}
 use Rattle.x86_model.specs.Operands.{target}
 use Rattle.x86_model.specs.Registers.{half}
 use Rattle.lift_table.specs.Faithful.{takes_answer}
 use Rattle.lift_table.specs.LiftLines.{address_line, addressed, all_but_carry, all_five, alone, alu_family, end_at, flag_lines, given_at, ir_cond, ir_width, loads, one_family, one_flags, part, puts, reads, shift_family, shift_flags, zero_lines}
 use Rattle.lift_table.specs.LiftTable.{accumulator_ops, alu_lines, alu_parts, both_read, called, cmov_parts, count_line, counted_lines, imul_parts, lea_parts, lifted, locked_parts, mul_ops, one_parts, popped, product_lines, pushed, shift_parts, sign_extended_to, spread_parts, stack_at, xchg_parts}
-use Rattle.block_lift.specs.Liftable.{IsCount, IsLiftable}
 use Rattle.block_lift.proofs.Ready.{PutsAll, Ready, Typed, address_typed, both_ready, end_at_alone, end_at_goes_on, flags_ready, given_typed, kinds, line_ready, maybe_ready, nil_ready, num, one_ready, part_typed, puts_ready, reads_ready, same_num, zeros_ready}
 
 -- ---- instructions
@@ -501,36 +500,36 @@ cmpxchg_good a b c d e f g h next w m reg fits fits2 =
 
 -- ---- every instruction
 
-pub good : (i : Instr) (next : ℕ) (a b c d e f g h : Option ℕ) → IsLiftable i → next < 2 ^ 64 → Good (kinds a b c d e f g h) (lifted i next) (is_transfer i)
-good (Alu op w dst src) next a b c d e f g h fit below = alu_good op a b c d e f g h next w dst src fit.fits
-good (Mov w dst src) next a b c d e f g h fit below = mov_good a b c d e f g h next w dst src fit.fits
-good (Zx from w dst src) next a b c d e f g h fit below = widened_good a b c d e f g h next from w src dst _ fit.fits.1 fit.fits.2.fits (λ z. zext_ready z c d e f g h from w fit.fits.0)
-good (Sx from w dst src) next a b c d e f g h fit below = widened_good a b c d e f g h next from w src dst _ fit.fits.1 fit.fits.2.fits (λ z. sext_ready z c d e f g h from w fit.fits.0)
-good (Lea w dst mem) next a b c d e f g h fit below = lea_good a b c d e f g h next w dst mem fit.fits.0 fit.fits.1 fit.fits.2
-good (Push src) next a b c d e f g h fit below = push_good a b c d e f g h next src fit.fits
-good (Pop dst) next a b c d e f g h fit below = pop_good a b c d e f g h dst fit.fits
-good (One op w dst) next a b c d e f g h fit below = one_good a b c d e f g h next op w dst fit.fits
-good (Mul signed w src) next a b c d e f g h fit below = mul_good a b c d e f g h next signed w src fit.fits.0 fit.fits.1
-good (Imul w dst x y) next a b c d e f g h fit below = imul_good a b c d e f g h next w dst x y fit.fits.0 fit.fits.1 fit.fits.2
-good (Div signed w src) next a b c d e f g h fit below = div_good a b c d e f g h next signed w src fit.fits.0 fit.fits.1
-good (Shift op w dst count) next a b c d e f g h fit below = shift_good a b c d e f g h next op w dst count fit.fits.0 fit.count fit.fits.1
-good (Widen w) next a b c d e f g h fit below = widen_good a b c d e f g h w fit.fits
-good (Spread w) next a b c d e f g h fit below = spread_good a b c d e f g h w fit.fits
-good (Xchg w x y) next a b c d e f g h fit below = xchg_good a b c d e f g h next w x y fit.fits.0 fit.fits.1
-good (Set kind dst) next a b c d e f g h fit below = set_good a b c d e f g h next kind dst fit.fits
-good (Cmov kind w dst src) next a b c d e f g h fit below = cmov_good a b c d e f g h next kind w dst src fit.fits.0 fit.fits.1 fit.fits.2
+pub good : (i : Instr) (next : ℕ) (a b c d e f g h : Option ℕ) → InstrFits i → next < 2 ^ 64 → Good (kinds a b c d e f g h) (lifted i next) (is_transfer i)
+good (Alu op w dst src) next a b c d e f g h fit below = alu_good op a b c d e f g h next w dst src fit
+good (Mov w dst src) next a b c d e f g h fit below = mov_good a b c d e f g h next w dst src fit
+good (Zx from w dst src) next a b c d e f g h fit below = widened_good a b c d e f g h next from w src dst _ fit.1 fit.2.fits (λ z. zext_ready z c d e f g h from w fit.0)
+good (Sx from w dst src) next a b c d e f g h fit below = widened_good a b c d e f g h next from w src dst _ fit.1 fit.2.fits (λ z. sext_ready z c d e f g h from w fit.0)
+good (Lea w dst mem) next a b c d e f g h fit below = lea_good a b c d e f g h next w dst mem fit.0 fit.1 fit.2
+good (Push src) next a b c d e f g h fit below = push_good a b c d e f g h next src fit
+good (Pop dst) next a b c d e f g h fit below = pop_good a b c d e f g h dst fit
+good (One op w dst) next a b c d e f g h fit below = one_good a b c d e f g h next op w dst fit
+good (Mul signed w src) next a b c d e f g h fit below = mul_good a b c d e f g h next signed w src fit.0 fit.1
+good (Imul w dst x y) next a b c d e f g h fit below = imul_good a b c d e f g h next w dst x y fit.0 fit.1 fit.2
+good (Div signed w src) next a b c d e f g h fit below = div_good a b c d e f g h next signed w src fit.0 fit.1
+good (Shift op w dst count) next a b c d e f g h fit below = shift_good a b c d e f g h next op w dst count fit.0 fit.2 fit.1
+good (Widen w) next a b c d e f g h fit below = widen_good a b c d e f g h w fit
+good (Spread w) next a b c d e f g h fit below = spread_good a b c d e f g h w fit
+good (Xchg w x y) next a b c d e f g h fit below = xchg_good a b c d e f g h next w x y fit.0 fit.1
+good (Set kind dst) next a b c d e f g h fit below = set_good a b c d e f g h next kind dst fit
+good (Cmov kind w dst src) next a b c d e f g h fit below = cmov_good a b c d e f g h next kind w dst src fit.0 fit.1 fit.2
 good (Jcc kind rel) next a b c d e f g h fit below = (refl, record { ops = refl; ends = refl }, leaves_block (ends.Branch (ir_cond kind) (target next rel) next))
 good (Jmp rel) next a b c d e f g h fit below = (refl, record { ops = refl; ends = refl }, leaves_block (ends.Go (Place (target next rel))))
-good (JmpTo src) next a b c d e f g h fit below = jump_to_good a b c d e f g h next src fit.fits
+good (JmpTo src) next a b c d e f g h fit below = jump_to_good a b c d e f g h next src fit
 good (Call rel) next a b c d e f g h fit below = call_good a b c d e f g h next (target next rel) below
-good (CallTo src) next a b c d e f g h fit below = call_to_good a b c d e f g h next src below fit.fits
+good (CallTo src) next a b c d e f g h fit below = call_to_good a b c d e f g h next src below fit
 good (Ret extra) next a b c d e f g h fit below = (refl, record { ops = refl; ends = refl }, refl, record { ops = refl; ends = refl }, leaves_block (ends.Go (Temp 1)))
 good Leave next a b c d e f g h fit below = (refl, record { ops = refl; ends = refl }, refl, record { ops = refl; ends = refl }, λ _. refl)
 good Nop next a b c d e f g h fit below = (refl, record { ops = refl; ends = refl }, λ _. refl)
 good Pause next a b c d e f g h fit below = (refl, record { ops = refl; ends = refl }, λ _. refl)
 good Endbr next a b c d e f g h fit below = (refl, record { ops = refl; ends = refl }, λ _. refl)
 good Mfence next a b c d e f g h fit below = (refl, record { ops = refl; ends = refl }, λ _. refl)
-good (LockAlu op w mem src) next a b c d e f g h fit below = lock_alu_good a b c d e f g h next op w mem src fit.fits.0 fit.fits.1 fit.fits.2 fit.fits.3
-good (LockOne op w mem) next a b c d e f g h fit below = lock_one_good a b c d e f g h next op w mem fit.fits.0 fit.fits.1
-good (Xadd w mem reg) next a b c d e f g h fit below = xadd_good a b c d e f g h next w mem reg fit.fits.0 fit.fits.1
-good (Cmpxchg w mem reg) next a b c d e f g h fit below = cmpxchg_good a b c d e f g h next w mem reg fit.fits.0 fit.fits.1
+good (LockAlu op w mem src) next a b c d e f g h fit below = lock_alu_good a b c d e f g h next op w mem src fit.0 fit.1 fit.2 fit.3
+good (LockOne op w mem) next a b c d e f g h fit below = lock_one_good a b c d e f g h next op w mem fit.0 fit.1
+good (Xadd w mem reg) next a b c d e f g h fit below = xadd_good a b c d e f g h next w mem reg fit.0 fit.1
+good (Cmpxchg w mem reg) next a b c d e f g h fit below = cmpxchg_good a b c d e f g h next w mem reg fit.0 fit.1

@@ -1,2 +1,4 @@
 pub mod Liftable
 pub mod Steps
+pub mod Accepted
+pub mod Spelled

@@ -1,6 +1,7 @@
 //! A block as a whole.
 
-ghost use Rattle.std.specs.Prelude.{◌≡◌, IfOk, OnOk, IsTrue, [], if◌then◌else◌};
+ghost use Rattle.std.specs.Prelude.{◌≡◌, IfOk, OnOk, IsTrue, true, [], if◌then◌else◌};
+ghost use Rattle.x86_forms.specs.Spelling.{are_bytes};
 ghost use Rattle.ir_syntax.specs.Typed.{IsWellTyped, is_empty};
 ghost use Rattle.ir_syntax.specs.declared.line.PartEnd.{PartEnd};
 ghost use Rattle.lift_table.specs.LiftLines.{alone};
@@ -8,6 +9,7 @@ ghost use Rattle.basic_blocks.specs.Places.{is_code_place};
 ghost use Rattle.basic_blocks.specs.Span.{block_at};
 ghost use Rattle.lift_table.specs.Block.{lifted_block, IsFaithful};
 ghost use Rattle.block_lift.specs.Liftable.{ArePlaced};
+ghost use Rattle.block_lift.specs.Spelled.{IsOfItsBytes};
 ghost use Rattle.block_lift.specs.Steps.{unstripped_block};
 
 use crate::laws::every_instruction_lifts;
@@ -31,15 +33,24 @@ fn fill(parts: &mut Vec<Part>, alloc: Global) -> Result<(), AllocError>
     Ok(())
 }
 
+// What stands in a slice of bytes are bytes.
+fn bytes_fit(code: &[u8])
+    ensures { are_bytes code.now ≡ true }
+{
+    let _ = code.len();
+}
+
 // The block at `a` with the dead puts of a flag.
 fn unstripped(alloc: Global, image: &Image, a: u64) -> Result<Block, AllocError>
     ensures block { IfOk result (λ b. b ≡ unstripped_block image.now a) }
     ensures placed { IfOk result (λ _. ArePlaced (block_at image.now a)) }
+    ensures bytes { IfOk result (λ b. are_bytes b.code ≡ true) }
 {
     let mut code = Vec::new(alloc);
     let mut parts = Vec::new(alloc);
     push_span(image, a, alloc, &mut code, &mut parts)?;
     fill(&mut parts, alloc)?;
+    bytes_fit(&code);
     Ok(Block {
         at: a,
         code: Seq::from_vec(code),
@@ -61,6 +72,7 @@ pub fn lift_block(alloc: Global, image: &Image, a: u64) -> Result<Block, AllocEr
     ensures lifted { IfOk result (λ b. b ≡ lifted_block image.now a) }
     ensures typed { IfOk result (λ b. IsWellTyped b) }
     ensures faithful { IfOk result (λ b. IsFaithful image.now b) }
+    ensures of_bytes { IfOk result (λ b. IsOfItsBytes b) }
 {
     every_instruction_lifts();
     let block = unstripped(alloc, image, a)?;

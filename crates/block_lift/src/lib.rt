@@ -10,10 +10,14 @@
 //! is lost with the dead puts of a flag.
 #![tactic(auto)]
 
+mod accepting;
 mod block;
+mod instr;
 pub mod laws;
 mod span;
 #[cfg(test)]
 mod tests;
 
+pub use accepting::{AcceptFault, accept};
 pub use block::lift_block;
+pub use instr::lift_instr;

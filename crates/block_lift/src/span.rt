@@ -7,44 +7,16 @@ ghost use Rattle.lift_table.specs.LiftTable.{lifted};
 ghost use Rattle.basic_blocks.specs.Span.{block_up_to, block_at};
 ghost use Rattle.lift_table.specs.Faithful.{lifted_all};
 ghost use Rattle.basic_blocks.specs.Bytes.{bytes_of};
-ghost use Rattle.block_lift.specs.Liftable.{ArePlaced, CountFits};
+ghost use Rattle.block_lift.specs.Liftable.{ArePlaced};
 ghost use Rattle.block_lift.specs.Steps.{going_on};
 
+use crate::instr::lift_instr;
 use basic_blocks::instr_at;
 use elf_image::Image;
 use ir_syntax::Part;
-use lift_alu::lift_private;
-use lift_mem::{lift_flow, lift_memory};
 use std::alloc::{AllocError, Global};
-use x86_forms::{Group, Instr};
+use x86_forms::Instr;
 use x86_model::code_from;
-
-// A byte is below 2^8.
-fn byte_fits(n: u8)
-    ensures { n < 2 ^ 8 }
-{
-    let _ = n;
-}
-
-// A count in an instruction is a byte.
-fn count_fits(instr: &Instr)
-    ensures { CountFits instr.now }
-{
-    if let Instr::Shift { count: Some(n), .. } = *instr {
-        byte_fits(n);
-    }
-}
-
-// The parts of an instruction, by its group.
-fn lift(alloc: Global, instr: &Instr, next: u64) -> Result<Vec<Part>, AllocError>
-    ensures { IfOk result (λ parts. parts.items ≡ lifted instr.now next) }
-{
-    match instr.group() {
-        Group::Private => lift_private(alloc, instr, next),
-        Group::Memory => lift_memory(alloc, instr, next),
-        Group::Transfer => lift_flow(alloc, instr, next),
-    }
-}
 
 // The bytes and the parts of an instruction that stands at `at`, behind those before it.
 fn push_lifted(
@@ -61,7 +33,7 @@ fn push_lifted(
     ensures parts { OnOk result (parts.new.items ≡ parts.old.items ++ lifted instr.now ((at + n) % 2 ^ 64)) }
 {
     code.extend_from_slice(&code_from(image, at)[..n as usize])?;
-    let mut lines = lift(alloc, instr, at.wrapping_add(n as u64))?;
+    let mut lines = lift_instr(alloc, instr, at.wrapping_add(n as u64))?;
     parts.append(&mut lines)?;
     Ok(())
 }
@@ -93,7 +65,6 @@ fn push_instr(
     let Some((instr, n)) = instr_at(image, at) else {
         return Ok(None);
     };
-    count_fits(&instr);
     push_lifted(image, at, &instr, n, alloc, code, parts)?;
     Ok(onward(&instr, at.wrapping_add(n as u64)))
 }

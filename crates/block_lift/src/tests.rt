@@ -148,10 +148,10 @@ fn compared(alloc: Global, code: &[u8]) -> Result<Block, AllocError> {
     })
 }
 
-// BF 07 00 00 00, mov edi, 7; E9 F6 0E 00 00, jmp exit.
-fn left(alloc: Global, code: &[u8]) -> Result<Block, AllocError> {
-    let seven = Op::Const { w: W, t: 1, n: 7 };
-    let mov = vec![in alloc; seven, put(7, 1)]?;
+// BF 07 00 00 00, mov edi, 7; E9 F6 0E 00 00, jmp exit: the block where n is 7.
+fn left(alloc: Global, code: &[u8], n: u64) -> Result<Block, AllocError> {
+    let number = Op::Const { w: W, t: 1, n };
+    let mov = vec![in alloc; number, put(7, 1)]?;
     let jmp = PartEnd::Go {
         to: Target::Place(0x40_1f00),
     };
@@ -172,7 +172,7 @@ fn blocks_of_worked_programs(rt: HostRuntime) -> Result<(), Fail> {
     assert!(rt; lifted(&rt, rt.alloc(), &image, 0x40_1000)? == want);
     let code = [0xbf, 7, 0, 0, 0, 0xe9, 0xf6, 0x0e, 0, 0];
     let image = program(rt.alloc(), &code)?;
-    let want = left(rt.alloc(), &code)?;
+    let want = left(rt.alloc(), &code, 7)?;
     assert!(rt; lifted(&rt, rt.alloc(), &image, 0x40_1000)? == want);
     Ok(())
 }
@@ -223,5 +223,113 @@ fn spans_end(rt: HostRuntime) -> Result<(), Fail> {
     assert!(rt; !is_code_place(&image, 0x40_1f10));
     assert!(rt; !is_code_place(&image, 0x7000_00ff_0000));
     laws::every_instruction_lifts();
+    Ok(())
+}
+
+// The fault of a block that isn't the one at its place: that block, and whether the lifted one is as expected.
+fn expect_stale(
+    rt: &impl Abort,
+    alloc: Global,
+    image: &Image,
+    blocks: Vec<Block>,
+    want: (&Block, &Block),
+) -> Result<(), Fail> {
+    match accept(alloc, image, blocks) {
+        Err(
+            AcceptFault::Stale {
+                address,
+                file,
+                lifted,
+            },
+        ) => {
+            assert!(rt; address == want.0.at && file == *want.0 && lifted == *want.1);
+            Ok(())
+        }
+        _ => Err("a stale block".into()),
+    }
+}
+
+#[test]
+fn blocks_are_accepted(rt: HostRuntime) -> Result<(), Fail> {
+    let alloc = rt.alloc();
+    let code = [
+        0xbf, 1, 0, 0, 0, 0xbe, 0x40, 0x10, 0x40, 0, 0xba, 3, 0, 0, 0, 0xe8, 0xfc, 0x0e, 0, 0,
+        0x31, 0xff, 0xe8, 0xe5, 0x0e, 0, 0,
+    ];
+    let image = program(alloc, &code)?;
+    let mut blocks = Vec::new(alloc);
+    for a in [0x40_101b, 0x40_1000, 0x40_1014] {
+        blocks.push(lifted(&rt, alloc, &image, a)?)?;
+    }
+    let accepted = accept(alloc, &image, blocks).ok().ok_or("accepted")?;
+    assert!(rt; accepted.len() == 3);
+    for (a, block) in [0x40_1000, 0x40_1014, 0x40_101b].into_iter().zip(&accepted) {
+        assert!(rt; *block == lifted(&rt, alloc, &image, a)?);
+    }
+    let none = accept(alloc, &image, Vec::new(alloc))
+        .ok()
+        .ok_or("accepted")?;
+    assert!(rt; none.is_empty());
+    Ok(())
+}
+
+// The blocks of these bytes at 0x401000, one for each number.
+fn blocks_with(alloc: Global, code: &[u8], numbers: &[u64]) -> Result<Vec<Block>, AllocError> {
+    let mut blocks = Vec::new(alloc);
+    for n in numbers {
+        blocks.push(left(alloc, code, *n)?)?;
+    }
+    Ok(blocks)
+}
+
+// mov edi, 7; jmp exit.
+const LEFT: [u8; 10] = [0xbf, 7, 0, 0, 0, 0xe9, 0xf6, 0x0e, 0, 0];
+
+#[test]
+fn changed_blocks_are_refused(rt: HostRuntime) -> Result<(), Fail> {
+    let alloc = rt.alloc();
+    let image = program(alloc, &LEFT)?;
+    let want = left(alloc, &LEFT, 7)?;
+    // A constant that is changed, and a byte.
+    let changed = left(alloc, &LEFT, 8)?;
+    let blocks = blocks_with(alloc, &LEFT, &[8])?;
+    expect_stale(&rt, alloc, &image, blocks, (&changed, &want))?;
+    let other = [0xbf, 8, 0, 0, 0, 0xe9, 0xf6, 0x0e, 0, 0];
+    let changed = left(alloc, &other, 7)?;
+    let blocks = blocks_with(alloc, &other, &[7])?;
+    expect_stale(&rt, alloc, &image, blocks, (&changed, &want))
+}
+
+// A block without bytes and parts, at the address to which a thread's start function returns.
+fn at_door(alloc: Global) -> Block {
+    Block {
+        at: 0x7000_00ff_0000,
+        code: Seq::from_vec(Vec::new(alloc)),
+        parts: Seq::from_vec(Vec::new(alloc)),
+    }
+}
+
+#[test]
+fn doors_are_refused(rt: HostRuntime) -> Result<(), Fail> {
+    let alloc = rt.alloc();
+    let image = program(alloc, &LEFT)?;
+    let mut blocks = blocks_with(alloc, &LEFT, &[7])?;
+    blocks.push(at_door(alloc))?;
+    let door = at_door(alloc);
+    expect_stale(&rt, alloc, &image, blocks, (&door, &door))
+}
+
+#[test]
+fn the_first_wrong_block_is_told(rt: HostRuntime) -> Result<(), Fail> {
+    let alloc = rt.alloc();
+    let image = program(alloc, &LEFT)?;
+    let want = left(alloc, &LEFT, 7)?;
+    // A second block of the same place that is stale, and one that isn't.
+    let changed = left(alloc, &LEFT, 8)?;
+    let blocks = blocks_with(alloc, &LEFT, &[7, 8])?;
+    expect_stale(&rt, alloc, &image, blocks, (&changed, &want))?;
+    let blocks = blocks_with(alloc, &LEFT, &[7, 7, 8])?;
+    let fault = accept(alloc, &image, blocks);
+    assert!(rt; matches!(fault, Err(AcceptFault::Twice(0x40_1000))));
     Ok(())
 }

@@ -1,6 +1,6 @@
 //! The shared state: its type, and what it tells.
 
-ghost use Rattle.std.specs.Prelude.{◌≡◌, ℕ, ◌<◌, ◌≤◌, ◌*◌, ◌+◌, ◌^◌, [], length, is_some, nat_lt, option_map, replicate, IfOk, IfSome, OnErr, OnOk, Some};
+ghost use Rattle.std.specs.Prelude.{◌≡◌, ℕ, ◌<◌, ◌≤◌, ◌*◌, ◌+◌, ◌-◌, ◌^◌, [], length, is_some, nat_lt, option_map, replicate, IfOk, IfSome, OnErr, OnOk, Some};
 ghost use Rattle.std.specs.FinMap as map;
 ghost use Rattle.std.specs.Option.{option_copied};
 ghost use Rattle.address_space.specs.Slots as slots;
@@ -112,6 +112,13 @@ impl<B: Fits> Hall<B> {
         let steps = self.shared.steps();
         let limit = self.case.limit();
         steps < limit && u64::from(k) < limit - steps
+    }
+
+    /// How many steps are left below the limit; 0 where none is.
+    pub fn steps_left(&self) -> u64
+        ensures { result ≡ self.now.case.limit - (machine self.now).steps }
+    {
+        self.case.limit().saturating_sub(self.shared.steps())
     }
 
     /// Whether no write of thread `t` waits.

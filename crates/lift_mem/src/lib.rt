@@ -1,7 +1,7 @@
 //! The lifting of instructions that read or write memory, or order accesses to it, and of transfers:
 //! jumps, calls and returns.
 //!
-//! `lift_memory` and `lift_flow` give the parts of the lifting table, `lifted` of `machine_model`
+//! `lift_memory` and `lift_flow` give the parts of the lifting table, `lifted` of `lift_table`
 //! (`specs/LiftTable.antt`). The laws in `laws` say, for each instruction of these groups, that its parts
 //! follow the thread (`Lifts` of `specs/Follow.antt`): from every state that agrees in registers and
 //! flags they ask for what the thread wants, whatever a load or a locked step answers, and agree again.

@@ -1,4 +1,5 @@
 pub mod Cuts
+pub mod Distances
 pub mod TableLemmas
 pub mod PrefixLemmas
 pub mod Again

@@ -37,8 +37,9 @@ use Rattle.x86_forms.specs.Groups.{is_memory}
 use Rattle.x86_forms.specs.Operands.{byte, unsigned, signed, displacement, rex_w, rex_r, rex_b, high_field, middle_field, low_field, is_baseless, index_of, sib_index, sib_scale, indexed, based, place_of, register, operand_of, sized, width_of, at_width}
 use Rattle.x86_forms.specs.Table.{Line, table}
 use Rattle.x86_forms.specs.Spelling.{Parts, bytes_of, are_bytes, allows_rex, operands_of, with_reg, with_mem, with_cond, lea, condition, instr_of, rm_width, meaning, Spells, is_narrowed}
-use Rattle.x86_forms.specs.Limits.{BaseFits, IndexFits, MemFits, OperandFits, PlaceFits, RegisterFits, PairFits, IsWide, IsOver8, Widens, ShiftFits, CanLock, CanLockOne, InstrFits}
+use Rattle.x86_forms.specs.Limits.{IsDistance, BaseFits, IndexFits, MemFits, OperandFits, PlaceFits, RegisterFits, PairFits, IsWide, IsOver8, Widens, ShiftFits, CanLock, CanLockOne, InstrFits}
 use Rattle.x86_forms.proofs.Cuts.{pass_at, guard_some}
+use Rattle.x86_forms.proofs.Distances.{byte_below, two_bytes_below, is_distance}
 
 -- ---- registers
 
@@ -87,13 +88,13 @@ abbrev IsPlace : Bool → Place → Type 0
 IsPlace no_rex (place.Reg n) = IsNumber no_rex n
 IsPlace no_rex (place.Mem m) = MemFits m
 
-place_fits : (x : List ℕ) (m sib : ℕ) (d : ℤ) → sib < 256 → IsPlace (nat_eq (length x) 0) (place_of (byte x) m sib d)
+place_fits : (x : List ℕ) (m sib : ℕ) (d : ℤ) → sib < 256 → IsDistance d → IsPlace (nat_eq (length x) 0) (place_of (byte x) m sib d)
 unfolding place_of indexed based
-place_fits x m sib d b =
+place_fits x m sib d b far =
     let b_bit : (n : ℕ) → n < 8 → IsNumber (nat_eq (length x) 0) (n + 8 * rex_b (byte x)) = λ n h. is_number x n (rex_b (byte x)) (λ z. rw z refl) h (omega arith) in
     let P : Place → Type 0 = IsPlace (nat_eq (length x) 0) in
     let mem_base : (v : Bool) (c : Base) (n : ℕ) → BaseFits c → n < 8 → BaseFits (cond v c (base.Reg (n + 8 * rex_b (byte x)))) = λ v c n k h. cond_both v c (base.Reg (n + 8 * rex_b (byte x))) BaseFits (λ _. k) (λ _. (b_bit n h).0) in
-    cond_both (nat_eq (high_field m) 3) _ _ P (λ _. b_bit (low_field m) (omega arith)) (λ _. cond_both (nat_eq (low_field m) 4) _ _ P (λ _. (mem_base (is_baseless m sib) base.None (low_field sib) tt (omega arith), index_fits (byte x) sib b)) (λ _. (mem_base (is_baseless m 0) base.Rip (low_field m) tt (omega arith), refl)))
+    cond_both (nat_eq (high_field m) 3) _ _ P (λ _. b_bit (low_field m) (omega arith)) (λ _. cond_both (nat_eq (low_field m) 4) _ _ P (λ _. (mem_base (is_baseless m sib) base.None (low_field sib) tt (omega arith), index_fits (byte x) sib b, far)) (λ _. (mem_base (is_baseless m 0) base.Rip (low_field m) tt (omega arith), refl, far)))
 
 operand_fits : (w : Width) (no_rex : Bool) (p : Place) → IsPlace no_rex p → PlaceFits w (operand_of w no_rex p)
 unfolding operand_of
@@ -465,74 +466,78 @@ module _ (s : Shape) (w : Width) (rm reg code imm : Operand) (o : ℕ) (t : List
   at_once : (j : Instr) → InstrFits j → Some j ≡ Some i → InstrFits i
   at_once j h e = subst InstrFits (same_Some j i e) h
 
-  fits : (k : Kind) → Given w (rm_width k w) rm reg code imm → shape_ok k s ≡ true → WidthOk k w → instr_of k w ds imm o t ≡ Some i → InstrFits i
+  fits : are_bytes t ≡ true → (k : Kind) → Given w (rm_width k w) rm reg code imm → shape_ok k s ≡ true → WidthOk k w → instr_of k w ds imm o t ≡ Some i → InstrFits i
   unfolding instr_of rm_width
-  fits (kind.Alu op) g sh wd e = at_once (instr.Alu op w ds.0 ds.1) (pair_fits s w rm reg code imm g sh) e
-  fits kind.Mov g sh wd e = at_once (instr.Mov w ds.0 ds.1) (pair_fits s w rm reg code imm g sh) e
-  fits (kind.Zx from) g sh wd e = extends from (λ r. instr.Zx from w r ds.1) g sh (λ r h p. (wd, h, p)) e
-  fits (kind.Sx from) g sh wd e = extends from (λ r. instr.Sx from w r ds.1) g sh (λ r h p. (wd, h, p)) e
-  fits kind.Lea g sh wd e =
+  fits b (kind.Alu op) g sh wd e = at_once (instr.Alu op w ds.0 ds.1) (pair_fits s w rm reg code imm g sh) e
+  fits b kind.Mov g sh wd e = at_once (instr.Mov w ds.0 ds.1) (pair_fits s w rm reg code imm g sh) e
+  fits b (kind.Zx from) g sh wd e = extends from (λ r. instr.Zx from w r ds.1) g sh (λ r h p. (wd, h, p)) e
+  fits b (kind.Sx from) g sh wd e = extends from (λ r. instr.Sx from w r ds.1) g sh (λ r h p. (wd, h, p)) e
+  fits b kind.Lea g sh wd e =
       let p = reg_rm_fits s w w rm reg code imm g sh in
       let c = lea_some w ds.0 ds.1 i e in
       subst InstrFits c.4 (wd, number_of c.0 p.0 c.2, memory_of w ds.1 c.1 p.1 c.3)
-  fits kind.Push g sh wd e = at_once (instr.Push ds.0) (subst (λ v. OperandFits v ds.0) wd (any_fits s w rm reg code imm g)) e
-  fits kind.Pop g sh wd e =
+  fits b kind.Push g sh wd e = at_once (instr.Push ds.0) (subst (λ v. OperandFits v ds.0) wd (any_fits s w rm reg code imm g)) e
+  fits b kind.Pop g sh wd e =
       let c = reg_some ds.0 (λ r. instr.Pop r) i e in
       let h : OperandFits w (operand.Reg c.0) = subst (OperandFits w) c.1 (any_fits s w rm reg code imm g) in
       subst InstrFits c.2 h
-  fits (kind.One op) g sh wd e = at_once (instr.One op w ds.0) (rm_fits s w w rm reg code imm g sh) e
-  fits (kind.Mul signed) g sh wd e = at_once (instr.Mul signed w ds.0) (wd, rm_fits s w w rm reg code imm g sh) e
-  fits kind.ImulTwo g sh wd e =
+  fits b (kind.One op) g sh wd e = at_once (instr.One op w ds.0) (rm_fits s w w rm reg code imm g sh) e
+  fits b (kind.Mul signed) g sh wd e = at_once (instr.Mul signed w ds.0) (wd, rm_fits s w w rm reg code imm g sh) e
+  fits b kind.ImulTwo g sh wd e =
       let p = reg_rm_fits s w w rm reg code imm g sh in
       extends w (λ r. instr.Imul w r ds.0 ds.1) g sh (λ r h q. (wd, h, record { target = as_place w ds.0 p.0; source = q.fits; one_memory = left_no _ _ p.0.no_memory })) e
-  fits kind.ImulThree g sh wd e = extends w (λ r. instr.Imul w r ds.1 imm) g sh (λ r h q. (wd, h, record { target = q; source = g.for_imm; one_memory = right_no (is_memory ds.1) _ g.number })) e
-  fits (kind.Div signed) g sh wd e = at_once (instr.Div signed w ds.0) (wd, rm_fits s w w rm reg code imm g sh) e
-  fits (kind.ShiftBy op) g sh wd e = at_once (instr.Shift op w ds.0 (Some (byte t))) (wd, rm_fits s w w rm reg code imm g sh) e
-  fits (kind.ShiftOne op) g sh wd e = at_once (instr.Shift op w ds.0 (Some 1)) (wd, rm_fits s w w rm reg code imm g sh) e
-  fits (kind.ShiftCl op) g sh wd e = at_once (instr.Shift op w ds.0 None) (wd, rm_fits s w w rm reg code imm g sh) e
-  fits kind.Widen g sh wd e = at_once (instr.Widen w) wd e
-  fits kind.Spread g sh wd e = at_once (instr.Spread w) wd e
-  fits kind.Xchg g sh wd e = at_once (instr.Xchg w ds.0 ds.1) (swap_fits s w rm reg code imm g sh) e
-  fits kind.Set g sh wd e =
+  fits b kind.ImulThree g sh wd e = extends w (λ r. instr.Imul w r ds.1 imm) g sh (λ r h q. (wd, h, record { target = q; source = g.for_imm; one_memory = right_no (is_memory ds.1) _ g.number })) e
+  fits b (kind.Div signed) g sh wd e = at_once (instr.Div signed w ds.0) (wd, rm_fits s w w rm reg code imm g sh) e
+  fits b (kind.ShiftBy op) g sh wd e = at_once (instr.Shift op w ds.0 (Some (byte t))) (wd, rm_fits s w w rm reg code imm g sh, byte_below t b) e
+  fits b (kind.ShiftOne op) g sh wd e = at_once (instr.Shift op w ds.0 (Some 1)) (wd, rm_fits s w w rm reg code imm g sh, omega arith) e
+  fits b (kind.ShiftCl op) g sh wd e = at_once (instr.Shift op w ds.0 None) (wd, rm_fits s w w rm reg code imm g sh, tt) e
+  fits b kind.Widen g sh wd e = at_once (instr.Widen w) wd e
+  fits b kind.Spread g sh wd e = at_once (instr.Spread w) wd e
+  fits b kind.Xchg g sh wd e = at_once (instr.Xchg w ds.0 ds.1) (swap_fits s w rm reg code imm g sh) e
+  fits b kind.Set g sh wd e =
       let c = cond_some (condition o) (λ c. Some (instr.Set c ds.0)) i e in
       at_once (instr.Set c.0 ds.0) (subst (λ v. PlaceFits v ds.0) wd (rm_fits s w w rm reg code imm g sh)) c.1
-  fits kind.Cmov g sh wd e =
+  fits b kind.Cmov g sh wd e =
       let c = cond_some (condition o) (λ c. with_reg ds.0 (λ r. instr.Cmov c w r ds.1)) i e in
       extends w (λ r. instr.Cmov c.0 w r ds.1) g sh (λ r h p. (wd, h, p)) c.1
-  fits kind.Jcc g sh wd e = let c = cond_some (condition o) (λ c. Some (instr.Jcc c (displacement t))) i e in at_once (instr.Jcc c.0 (displacement t)) tt c.1
-  fits kind.Jmp g sh wd e = at_once (instr.Jmp (displacement t)) tt e
-  fits kind.JmpTo g sh wd e = at_once (instr.JmpTo ds.0) (subst (λ v. PlaceFits v ds.0) wd (rm_fits s w w rm reg code imm g sh)) e
-  fits kind.Call g sh wd e = at_once (instr.Call (displacement t)) tt e
-  fits kind.CallTo g sh wd e = at_once (instr.CallTo ds.0) (subst (λ v. PlaceFits v ds.0) wd (rm_fits s w w rm reg code imm g sh)) e
-  fits kind.Ret g sh wd e = at_once (instr.Ret (unsigned (take 2 t))) tt e
-  fits kind.Leave g sh wd e = at_once instr.Leave tt e
-  fits kind.Nop g sh wd e = at_once instr.Nop tt e
-  fits kind.Pause g sh wd e = at_once instr.Pause tt e
-  fits kind.Endbr g sh wd e = at_once instr.Endbr tt e
-  fits kind.Mfence g sh wd e = at_once instr.Mfence tt e
-  fits (kind.LockAlu op) g sh wd e = let p = lock_fits s w rm reg code imm g sh in locked (λ m. instr.LockAlu op w m ds.1) p.0 (λ m h. (wd, h, p.1, p.2)) e
-  fits (kind.LockOne op) g sh wd e = locked (λ m. instr.LockOne op w m) (rm_fits s w w rm reg code imm g sh) (λ m h. (wd, h)) e
-  fits kind.LockXchg g sh wd e = let p = swap_fits s w rm reg code imm g sh in locked (λ m. instr.Xchg w (operand.Mem m) ds.1) p.0 (λ m h. (record { fits = h; place = refl }, p.1)) e
-  fits kind.Xadd g sh wd e = let p = swap_fits s w rm reg code imm g sh in locked (λ m. instr.Xadd w m ds.1) p.0 (λ m h. (h, p.1)) e
-  fits kind.Cmpxchg g sh wd e = let p = swap_fits s w rm reg code imm g sh in locked (λ m. instr.Cmpxchg w m ds.1) p.0 (λ m h. (h, p.1)) e
+  fits b kind.Jcc g sh wd e = let c = cond_some (condition o) (λ c. Some (instr.Jcc c (displacement t))) i e in at_once (instr.Jcc c.0 (displacement t)) (is_distance t b) c.1
+  fits b kind.Jmp g sh wd e = at_once (instr.Jmp (displacement t)) (is_distance t b) e
+  fits b kind.JmpTo g sh wd e = at_once (instr.JmpTo ds.0) (subst (λ v. PlaceFits v ds.0) wd (rm_fits s w w rm reg code imm g sh)) e
+  fits b kind.Call g sh wd e = at_once (instr.Call (displacement t)) (is_distance t b) e
+  fits b kind.CallTo g sh wd e = at_once (instr.CallTo ds.0) (subst (λ v. PlaceFits v ds.0) wd (rm_fits s w w rm reg code imm g sh)) e
+  fits b kind.Ret g sh wd e = at_once (instr.Ret (unsigned (take 2 t))) (two_bytes_below t b) e
+  fits b kind.Leave g sh wd e = at_once instr.Leave tt e
+  fits b kind.Nop g sh wd e = at_once instr.Nop tt e
+  fits b kind.Pause g sh wd e = at_once instr.Pause tt e
+  fits b kind.Endbr g sh wd e = at_once instr.Endbr tt e
+  fits b kind.Mfence g sh wd e = at_once instr.Mfence tt e
+  fits b (kind.LockAlu op) g sh wd e = let p = lock_fits s w rm reg code imm g sh in locked (λ m. instr.LockAlu op w m ds.1) p.0 (λ m h. (wd, h, p.1, p.2)) e
+  fits b (kind.LockOne op) g sh wd e = locked (λ m. instr.LockOne op w m) (rm_fits s w w rm reg code imm g sh) (λ m h. (wd, h)) e
+  fits b kind.LockXchg g sh wd e = let p = swap_fits s w rm reg code imm g sh in locked (λ m. instr.Xchg w (operand.Mem m) ds.1) p.0 (λ m h. (record { fits = h; place = refl }, p.1)) e
+  fits b kind.Xadd g sh wd e = let p = swap_fits s w rm reg code imm g sh in locked (λ m. instr.Xadd w m ds.1) p.0 (λ m h. (h, p.1)) e
+  fits b kind.Cmpxchg g sh wd e = let p = swap_fits s w rm reg code imm g sh in locked (λ m. instr.Cmpxchg w m ds.1) p.0 (λ m h. (h, p.1)) e
 
 -- ---- the whole
 
 both_bytes : (a b : List ℕ) → are_bytes (a ++ b) ≡ true → (are_bytes a ≡ true) × (are_bytes b ≡ true)
 both_bytes a b h = and_parts (are_bytes a) (are_bytes b) (sym (list_all-append (λ v. nat_lt v 256) a b) ∙ h)
 
-byte_below : (a : List ℕ) → are_bytes a ≡ true → byte a < 256
-byte_below [] h = omega arith
-byte_below (b ∷ bs) h = ltb-true b 256 (and_parts (nat_lt b 256) (are_bytes bs) h).0
+-- the bytes that follow ModRM
+record AreTails (p : Parts) : Type 0 where
+  sib : byte p.sib < 256
+  disp : are_bytes p.disp ≡ true
+  imm : are_bytes p.imm ≡ true
 
-sib_below : (p : Parts) → are_bytes (bytes_of p) ≡ true → byte p.sib < 256
-sib_below p h =
+are_tails : (p : Parts) → are_bytes (bytes_of p) ≡ true → AreTails p
+are_tails p h =
     let a = both_bytes p.prefixes _ h in
     let b = both_bytes p.rex _ a.1 in
     let c = both_bytes p.escape _ b.1 in
     let d = both_bytes p.opcode _ c.1 in
     let e = both_bytes p.modrm _ d.1 in
-    byte_below p.sib (both_bytes p.sib _ e.1).0
+    let f = both_bytes p.sib _ e.1 in
+    let g = both_bytes p.disp p.imm f.1 in
+    record { sib = byte_below p.sib f.0; disp = g.0; imm = g.1 }
 
 pub spelled_fits : (i : Instr) (s : List ℕ) → Spells i s → InstrFits i
 unfolding meaning
@@ -548,7 +553,8 @@ spelled_fits i s h =
     let x = byte p.rex in
     let ok = and_parts (shape_ok row.kind row.shape) (size_ok row.kind row.size row.rex) (pass_at (λ (k : Line). row_ok k.row) table h.number l table_ok h.listed) in
     let bytes : are_bytes (bytes_of p) ≡ true = subst (λ t. are_bytes t ≡ true) h.string h.bytes in
-    let place = place_fits p.rex m (byte p.sib) (displacement p.disp) (sib_below p bytes) in
+    let tails = are_tails p bytes in
+    let place = place_fits p.rex m (byte p.sib) (displacement p.disp) tails.sib (is_distance p.disp tails.disp) in
     let given : Given w v (operand_of v no_rex (place_of x m (byte p.sib) (displacement p.disp))) (register w no_rex (middle_field m + 8 * rex_r x)) (register w no_rex (byte p.opcode % 8 + 8 * rex_b x)) (operand.Imm (at_width w (signed p.imm))) = record {
       for_rm = operand_fits v no_rex _ place;
       for_reg = register_fits w no_rex _ (is_number p.rex (middle_field m) (rex_r x) (λ z. rw z refl) (omega arith) (omega arith));
@@ -556,4 +562,4 @@ spelled_fits i s h =
       for_imm = number_fits w (signed p.imm);
       number = refl;
     } in
-    fits row.shape w _ _ _ _ (byte p.opcode) p.imm i row.kind given ok.0 (width_ok row.kind row.size row.rex (is_narrowed p.prefixes) p.rex w ok.1 f.asked f.width) h.means
+    fits row.shape w _ _ _ _ (byte p.opcode) p.imm i tails.imm row.kind given ok.0 (width_ok row.kind row.size row.rex (is_narrowed p.prefixes) p.rex w ok.1 f.asked f.width) h.means

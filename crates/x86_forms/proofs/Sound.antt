@@ -174,10 +174,10 @@ counted_some : (k : ℕ) (o : Option (Instr × List ℕ)) (i : Instr) (n : ℕ) 
 counted_some k None i n e = absurd cc
 counted_some k (Some x) i n e = let p = some_pair_parts x.0 i (k - length x.1) n e in (x, refl, p.0, p.1)
 
--- What is read from bytes is spelled by as many of them as the reading says.
-pub sound : (bytes : List ℕ) (i : Instr) (n : ℕ) → are_bytes bytes ≡ true → read bytes ≡ Some (i, n) → Spells i (take n bytes)
+-- What is read is spelled by as many numbers as the reading says, where those are bytes, whatever stands behind them.
+pub front_spelled : (bytes : List ℕ) (i : Instr) (n : ℕ) → are_bytes (take n bytes) ≡ true → read bytes ≡ Some (i, n) → Spells i (take n bytes)
 unfolding read
-sound bytes i n all e =
+front_spelled bytes i n all e =
     let c = counted_some (length (take 15 bytes)) (read_instr (take 15 bytes)) i n e in
     let x = c.0 in
     let t = instr_takes (take 15 bytes) x c.1 in
@@ -195,6 +195,10 @@ sound bytes i n all e =
       form = t.form;
       means = subst (λ v. meaning t.line.row t.width t.parts ≡ Some v) c.2 t.means;
       string = front;
-      bytes = bytes_front n bytes all;
+      bytes = all;
       short = omega (arith, ap length front, len, short);
     }
+
+-- What is read from bytes is spelled by as many of them as the reading says.
+pub sound : (bytes : List ℕ) (i : Instr) (n : ℕ) → are_bytes bytes ≡ true → read bytes ≡ Some (i, n) → Spells i (take n bytes)
+sound bytes i n all e = front_spelled bytes i n (bytes_front n bytes all) e

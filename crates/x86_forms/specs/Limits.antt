@@ -1,5 +1,5 @@
--- What every instruction that has a spelling keeps: numbers of registers, sizes of numbers, widths, and at most one operand in memory.
-use Rattle.std.specs.Prelude.{◌≡◌, ◌≢◌, ℕ, ◌^◌, ◌<◌, Bool, true, false, ◌&&◌, ◌||◌, nat_eq, Option, Some, None, ⊤}
+-- What every instruction that has a spelling keeps: numbers of registers, sizes of numbers and distances, widths, and at most one operand in memory.
+use Rattle.std.specs.Prelude.{◌≡◌, ◌≢◌, ℕ, ◌^◌, ◌<◌, Bool, true, false, ◌&&◌, ◌||◌, nat_eq, ℤ, pos, negsuc, Option, Some, None, ⊤}
 use Rattle.x86_forms.specs.declared.operands.Width.{Width}
 use Rattle.x86_forms.specs.declared.operands.Width.TheVariants.{W8, W16, W32, W64}
 use Rattle.x86_forms.specs.declared.operands.Base.{Base}
@@ -14,7 +14,7 @@ use Rattle.x86_forms.specs.declared.instructions.OneOp.TheVariants as one
 use Rattle.x86_forms.specs.declared.instructions.ShiftOp.{ShiftOp}
 use Rattle.x86_forms.specs.declared.instructions.ShiftOp.TheVariants.{Shl, Shr, Sar, Rol, Ror}
 use Rattle.x86_forms.specs.declared.instructions.Instr.{Instr}
-use Rattle.x86_forms.specs.declared.instructions.Instr.TheVariants.{Alu, Mov, Zx, Sx, Lea, Push, Pop, One, Mul, Imul, Div, Shift, Widen, Spread, Xchg, Set, Cmov, JmpTo, CallTo, LockAlu, LockOne, Xadd, Cmpxchg}
+use Rattle.x86_forms.specs.declared.instructions.Instr.TheVariants.{Alu, Mov, Zx, Sx, Lea, Push, Pop, One, Mul, Imul, Div, Shift, Widen, Spread, Xchg, Set, Cmov, Jcc, Jmp, JmpTo, Call, CallTo, Ret, Leave, Nop, Pause, Endbr, Mfence, LockAlu, LockOne, Xadd, Cmpxchg}
 use Rattle.x86_forms.specs.Widths.{bits_in}
 use Rattle.x86_forms.specs.Groups.{is_memory}
 
@@ -30,8 +30,13 @@ abbrev pub IndexFits : Option ℕ → ℕ → Type 0
 IndexFits None scale = scale ≡ 1
 IndexFits (Some r) scale = (r < 16) × (r ≢ 4) × ((nat_eq scale 1 || (nat_eq scale 2 || (nat_eq scale 4 || nat_eq scale 8))) ≡ true)
 
+-- a displacement or a relative target: a signed number of 32 bits
+abbrev pub IsDistance : ℤ → Type 0
+IsDistance (pos n) = n < 2 ^ 31
+IsDistance (negsuc n) = n < 2 ^ 31
+
 abbrev pub MemFits : Mem → Type 0
-MemFits m = BaseFits m.base × IndexFits m.index m.scale
+MemFits m = BaseFits m.base × IndexFits m.index m.scale × IsDistance m.disp
 
 abbrev pub OperandFits : Width → Operand → Type 0
 OperandFits w (operand.Reg r) = r < 16
@@ -92,6 +97,11 @@ ShiftFits Sar w = ⊤
 ShiftFits Rol w = IsWide w
 ShiftFits Ror w = IsWide w
 
+-- a count that stands in an instruction is a byte
+abbrev pub IsCount : Option ℕ → Type 0
+IsCount None = ⊤
+IsCount (Some n) = n < 2 ^ 8
+
 -- ADD, OR, AND, SUB and XOR, and INC and DEC, take LOCK
 abbrev pub CanLock : AluOp → Type 0
 CanLock alu.Add = ⊤
@@ -122,16 +132,24 @@ InstrFits (One op w dst) = PlaceFits w dst
 InstrFits (Mul signed w src) = IsWide w × PlaceFits w src
 InstrFits (Imul w dst a b) = IsWide w × (dst < 16) × PairFits w a b
 InstrFits (Div signed w src) = IsWide w × PlaceFits w src
-InstrFits (Shift op w dst count) = ShiftFits op w × PlaceFits w dst
+InstrFits (Shift op w dst count) = ShiftFits op w × PlaceFits w dst × IsCount count
 InstrFits (Widen w) = IsWide w
 InstrFits (Spread w) = IsWide w
 InstrFits (Xchg w a b) = PlaceFits w a × RegisterFits w b
 InstrFits (Set cc dst) = PlaceFits W8 dst
 InstrFits (Cmov cc w dst src) = IsWide w × (dst < 16) × PlaceFits w src
+InstrFits (Jcc cc rel) = IsDistance rel
+InstrFits (Jmp rel) = IsDistance rel
 InstrFits (JmpTo src) = PlaceFits W64 src
+InstrFits (Call rel) = IsDistance rel
 InstrFits (CallTo src) = PlaceFits W64 src
+InstrFits (Ret extra) = extra < 2 ^ 16
+InstrFits Leave = ⊤
+InstrFits Nop = ⊤
+InstrFits Pause = ⊤
+InstrFits Endbr = ⊤
+InstrFits Mfence = ⊤
 InstrFits (LockAlu op w mem src) = CanLock op × MemFits mem × OperandFits w src × (is_memory src ≡ false)
 InstrFits (LockOne op w mem) = CanLockOne op × MemFits mem
 InstrFits (Xadd w mem reg) = MemFits mem × RegisterFits w reg
 InstrFits (Cmpxchg w mem reg) = MemFits mem × RegisterFits w reg
-InstrFits _ = ⊤

@@ -33,4 +33,4 @@ pub returns-clause-placed : goal.returns-clause-placed
 returns-clause-placed c =
     let x : Instr × ℕ = (c.in-Some.instr, c.in-Some.n) in
     let e = sym c.instr_at.ensures.value ∙ c.in-Some.is in
-    λ n h. subst ArePlaced (sym (begins_with c.args.image.now n c.args.at x c.onward.result e c.onward.ensures)) (placed_one c.args.at x c.in-Some.ensures.fits c.count_fits.ensures, h)
+    λ n h. subst ArePlaced (sym (begins_with c.args.image.now n c.args.at x c.onward.result e c.onward.ensures)) (placed_one c.args.at x c.in-Some.ensures.fits, h)
