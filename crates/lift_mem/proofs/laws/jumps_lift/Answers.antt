@@ -1,9 +1,10 @@
-use Rattle.lift_mem.proofs.Groups.{jcc_lifts, jmp_lifts, jmp_to_lifts}
+use Rattle.lift_mem.proofs.Transfers.{jcc_law, jmp_law}
+use Rattle.lift_mem.proofs.Groups.{jmp_to_lifts}
 use Rattle.lift_mem.proofs.laws.jumps_lift.Goals as goal
 
 pub returns : goal.returns
 returns c = record {
-  conditional = λ kind rel next. jcc_lifts kind rel next tt;
-  direct = λ rel next. jmp_lifts rel next tt;
+  conditional = jcc_law;
+  direct = jmp_law;
   indirect = jmp_to_lifts;
 }
