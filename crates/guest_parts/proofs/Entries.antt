@@ -48,7 +48,7 @@ use Rattle.guest_parts.specs.Standing.{Position, Between, Inside, StandsBetween,
 use Rattle.guest_parts.specs.Requests.{GoesOnWith, IsFence, IsLoad, IsLocked, IsStore, stand_by}
 use Rattle.guest_parts.specs.Guest.{GuestData, IsGoing, IsWith, LeavesEnded, LeavesFlushed, LeavesGrown, LeavesWith}
 
-some_of : {A : Type 0} (o : Option A) (x : A) → o ≡ Some x → IsSome o
+pub some_of : {A : Type 0} (o : Option A) (x : A) → o ≡ Some x → IsSome o
 some_of None x e = absurd (none-some x e)
 some_of (Some y) x e = refl
 
@@ -251,7 +251,7 @@ module _ (c : CaseData) (b : Both) (t : ℕ) (g : GuestData) (d : Stand) (h : Is
 
   -- ---- events
 
-  event_comes : (left : List ℕ) (m : Machine) → b.machine.steps + g.k < c.limit → entered c.image b.gate.grown d.cpu.rip d.left ≡ Some left → carried_out (want c.image d.cpu) (later b.machine (g.k + 1)) t d.cpu ≡ Some m → (n : Both) × (advance c b (Ev t g.k) ≡ Some n)
+  pub event_comes : (left : List ℕ) (m : Machine) → b.machine.steps + g.k < c.limit → entered c.image b.gate.grown d.cpu.rip d.left ≡ Some left → carried_out (want c.image d.cpu) (later b.machine (g.k + 1)) t d.cpu ≡ Some m → (n : Both) × (advance c b (Ev t g.k) ≡ Some n)
   event_comes left m room enters carried =
       let made : step_from c b.machine (Ev t g.k) d.cpu ≡ Some m = ap (λ x. cond x (carried_out (want c.image d.cpu) (later b.machine (g.k + 1)) t d.cpu) None) (lt_test (b.machine.steps + g.k) c.limit room) ∙ carried in
       let after = cpu_at m (slot_of t) in

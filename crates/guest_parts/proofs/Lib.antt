@@ -6,3 +6,5 @@ pub mod Runs
 pub mod Turns
 pub mod Begins
 pub mod Entries
+pub mod Rows
+pub mod Calls

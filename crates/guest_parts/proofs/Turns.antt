@@ -8,19 +8,22 @@ use Rattle.elf_image.specs.Layout.{ImageData}
 use Rattle.journal_pack.specs.declared.entry.Entry.{Entry}
 use Rattle.journal_pack.specs.declared.entry.Entry.TheVariants.{Ev, Tick, Flush, Wait, Over}
 use Rattle.x86_model.specs.declared.cpu.Cpu.{Cpu}
+use Rattle.x86_model.specs.declared.want.Want.{Want}
+use Rattle.x86_model.specs.declared.want.Want.TheVariants as wants
 use Rattle.x86_model.specs.Want.{want}
+use Rattle.lib_table.specs.declared.ask.Asked.{Asked}
 use Rattle.basic_blocks.specs.Places.{is_code_place}
 use Rattle.basic_blocks.specs.Reach.{is_among}
 use Rattle.basic_blocks.specs.Span.{span}
 use Rattle.machine_model.specs.declared.ending.RunEnd.{RunEnd}
 use Rattle.machine_model.specs.CaseData.{CaseData}
 use Rattle.machine_model.specs.State.{is_live, list_at}
-use Rattle.machine_model.specs.Step.{privately, waits_at}
+use Rattle.machine_model.specs.Step.{asked_by, privately, waits_at}
 use Rattle.machine_model.specs.Gated.{Both, Stand, advance, between_blocks, entered, gated_step, gated_steps, is_between, moved_on, stand_at, within_block}
 use Rattle.machine_model.specs.Own.{IsAhead}
-use Rattle.machine_model.specs.Serial.{AreReaches, AtEvent, AtLimit, AtMiss, AtMost, GoesOn, Point, Reaches, Rule, Turn, act, by_limit, by_miss, by_most, by_want, event, event_by, flush_some, flushed_before, is_missing, is_over, make, next_by, next_point, on_to, point_of, point_on, rule_at, stop_from, turn_from, unless_over, with_entry, with_new}
+use Rattle.machine_model.specs.Serial.{AreReaches, AtEvent, AtLimit, AtMiss, AtMost, GoesOn, Point, Reaches, Rule, Turn, act, by_limit, by_miss, by_most, by_want, event, event_by, flush_some, flushed_before, is_missing, is_over, make, next_by, next_point, on_to, point_of, point_on, rule_at, stop_from, told_waiting, turn_from, unless_over, with_entry, with_new}
 use Rattle.machine_model.proofs.NamesEntries.{makes}
-use Rattle.guest_parts.specs.Points.{Acts, ComesOut, ComesTo, GoesOnAs, point_at, turn_of}
+use Rattle.guest_parts.specs.Points.{Acts, ComesOut, ComesTo, GoesOnAs, point_at, turn_of, waiting_of}
 
 -- ---- rules at a point
 
@@ -187,3 +190,48 @@ event_acts_by c t q s b n journal ages flushed no_wait h = λ reach right.
     ap (option_and_then (event c t q)) flushed
     ∙ ap (event_by c t q (turn_of b journal ages)) no_wait
     ∙ made c (Ev t q.k) b n journal (with_new (want c.image q.stand.cpu) ages) h
+
+-- ---- requests of the library
+
+all_flushed : (w : Want) (what : Asked) (n : ℕ) → asked_by w ≡ Some what → flushed_before w n ≡ n
+all_flushed (wants.Private next) what n e = absurd (none-some what e)
+all_flushed (wants.Load a x) what n e = absurd (none-some what e)
+all_flushed (wants.Store a x value next) what n e = absurd (none-some what e)
+all_flushed (wants.Fence next) what n e = absurd (none-some what e)
+all_flushed (wants.Locked a x change) what n e = absurd (none-some what e)
+all_flushed (wants.Call f) what n e = refl
+all_flushed (wants.Door d) what n e = refl
+all_flushed (wants.Bad kind) what n e = absurd (none-some what e)
+
+none_new : (w : Want) (what : Asked) (ages : List ℕ) → asked_by w ≡ Some what → with_new w ages ≡ ages
+none_new (wants.Private next) what ages e = absurd (none-some what e)
+none_new (wants.Load a x) what ages e = absurd (none-some what e)
+none_new (wants.Store a x value next) what ages e = absurd (none-some what e)
+none_new (wants.Fence next) what ages e = absurd (none-some what e)
+none_new (wants.Locked a x change) what ages e = absurd (none-some what e)
+none_new (wants.Call f) what ages e = refl
+none_new (wants.Door d) what ages e = refl
+none_new (wants.Bad kind) what ages e = absurd (none-some what e)
+
+module _ (c : CaseData) (t : ℕ) (q : Point) (s : Turn) (b : Both) (journal : List Entry) (ages : List ℕ) (what : Asked) (asks : asked_by (want c.image q.stand.cpu) ≡ Some what) (flushed : flush_some c t (length (list_at s.both.machine (slot_of t))) s ≡ Some (turn_of b journal ages)) where
+  flushed_all : flush_some c t (flushed_before (want c.image q.stand.cpu) (length (list_at s.both.machine (slot_of t)))) s ≡ Some (turn_of b journal ages)
+  flushed_all = ap (λ n. flush_some c t n s) (all_flushed (want c.image q.stand.cpu) what (length (list_at s.both.machine (slot_of t))) asks) ∙ flushed
+
+  -- a request that is carried out, or is bad
+  pub call_acts : (n : Both) → waits_at c.image b.machine t q.stand.cpu ≡ false → advance c b (Ev t q.k) ≡ Some n → Acts c t q s AtEvent (turn_of n (journal ++ Ev t q.k ∷ []) ages)
+  call_acts n no_wait h = subst (λ z. Acts c t q s AtEvent (turn_of n (journal ++ Ev t q.k ∷ []) z)) (none_new (want c.image q.stand.cpu) what ages asks) (event_acts_by c t q s b n journal ages flushed_all no_wait h)
+
+  waits_then : (x : Option Turn) → waits_at c.image b.machine t q.stand.cpu ≡ true → told_waiting c t q.k (turn_of b journal ages) ≡ x → option_and_then (event c t q) (flush_some c t (flushed_before (want c.image q.stand.cpu) (length (list_at s.both.machine (slot_of t)))) s) ≡ x
+  waits_then x wait h = ap (option_and_then (event c t q)) flushed_all ∙ ap (event_by c t q (turn_of b journal ages)) wait ∙ h
+
+  -- one that waits, right after the thread's last entry
+  pub stay_acts : q.k ≡ 0 → waits_at c.image b.machine t q.stand.cpu ≡ true → Acts c t q s AtEvent (waiting_of b journal ages)
+  stay_acts none wait = λ reach right. waits_then (Some (waiting_of b journal ages)) wait (ap (λ k. told_waiting c t k (turn_of b journal ages)) none)
+
+  told_some : (n : Both) (k : ℕ) → 0 < k → advance c b (Wait t k) ≡ Some n → told_waiting c t k (turn_of b journal ages) ≡ Some (waiting_of n (journal ++ Wait t k ∷ []) ages)
+  told_some n zero some h = absurd (omega arith)
+  told_some n (suc k) some h = makes c (Wait t (suc k)) (waiting_of b journal ages) n h
+
+  -- and after private steps, which are told
+  pub wait_acts : (n : Both) → 0 < q.k → waits_at c.image b.machine t q.stand.cpu ≡ true → advance c b (Wait t q.k) ≡ Some n → Acts c t q s AtEvent (waiting_of n (journal ++ Wait t q.k ∷ []) ages)
+  wait_acts n some wait h = λ reach right. waits_then (Some (waiting_of n (journal ++ Wait t q.k ∷ []) ages)) wait (told_some n q.k some h)

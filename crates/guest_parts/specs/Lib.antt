@@ -5,3 +5,4 @@ pub mod Running
 pub mod Points
 pub mod Guest
 pub mod Entries
+pub mod Calls

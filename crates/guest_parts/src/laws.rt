@@ -18,6 +18,7 @@ ghost use Rattle.guest_parts.specs.Standing.{IsLiftedAt, StandsBetween, StandsIn
 ghost use Rattle.guest_parts.specs.Requests.{Finishes, FollowsItsThread};
 ghost use Rattle.guest_parts.specs.Points.{Acts, ComesOut, ComesTo, GoesOnAs, point_at, turn_of};
 ghost use Rattle.guest_parts.specs.Entries.{BadEnds, FencePasses, FlushKeeps, FullEnds, GrowKeeps, LoadAnswers, LoadEnds, LockedAnswers, LockedEnds, MissEnds, MissTells, OverEnds, StoreEnds, StoreWaits, TickTells, WaitTells};
+ghost use Rattle.guest_parts.specs.Calls.{AnswersFit, CallActs, CallAnswers, CallAsks, CallComes, CallEnds, CallFaults, CallStops, StayActs, WaitActs};
 
 use basic_blocks::goes_on_after_its_bytes;
 
@@ -65,4 +66,26 @@ pub fn entries_leave_guests()
     ensures store_ends { StoreEnds }
     ensures fence { FencePasses }
     ensures bad { BadEnds }
+{}
+
+/// What a call of the library, or a return to a door, leaves of a guest that stands with its thread at it, where none of the
+/// thread's own writes waits. Its request is its thread's, and it is what a turn stops at. Unless it waits for another
+/// thread, its entry may come. After it the guest goes on with the answer in its registers, its calls back and its place,
+/// and stands with its thread there; or the thread ended, or the run has an ending. What is answered fits the registers.
+pub fn calls_leave_guests()
+    ensures asks { CallAsks }
+    ensures stops { CallStops }
+    ensures comes { CallComes }
+    ensures answers { CallAnswers }
+    ensures fits { AnswersFit }
+    ensures ends { CallEnds }
+    ensures faults { CallFaults }
+{}
+
+/// What a turn does at a request of the library, after all of its thread's waiting writes went to memory: one entry, after
+/// which the turn goes on or is over; or, where the request waits, an entry that tells the private steps, if there are any.
+pub fn calls_in_turns()
+    ensures call { CallActs }
+    ensures stay { StayActs }
+    ensures wait { WaitActs }
 {}
