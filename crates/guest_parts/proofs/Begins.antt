@@ -1,5 +1,5 @@
 -- A guest begins a block.
-use Rattle.std.proofs.Common.{◌≡◌, ℕ, zero, suc, ◌<◌, true, List, [], ◌∷◌, None, refl, sym, ap, ◌∙◌, subst, drop}
+use Rattle.std.proofs.Common.{◌≡◌, ℕ, true, List, [], ◌∷◌, None, refl, sym, ap, ◌∙◌, subst}
 use Rattle.elf_image.specs.Layout.{ImageData}
 use Rattle.guest_state.specs.declared.virtual_state.Virtual.{Virtual}
 use Rattle.ir_meaning.specs.Does.{flag_in}

@@ -1,12 +1,11 @@
 -- What the entry of a call of the library, or of a return to a door, leaves of a guest and its thread.
-use Rattle.std.proofs.Common.{◌≡◌, ◌≢◌, ℕ, ◌+◌, ◌-◌, ◌%◌, ◌^◌, ◌<◌, ◌⊎◌, inl, inr, Bool, true, false, cond, List, [], ◌∷◌, Option, Some, None, refl, sym, ap, ◌∙◌, subst, arith, ◌&&◌, ◌==◌, nat_lt, length, length-set, slice_index, slice_set}
-use Rattle.std.specs.Prelude.{is_none, IsSome}
+use Rattle.std.proofs.Common.{◌≡◌, ◌≢◌, ℕ, ◌+◌, ◌-◌, ◌%◌, ◌^◌, ◌<◌, ◌⊎◌, inl, inr, true, false, cond, List, [], Option, Some, None, refl, sym, ap, ◌∙◌, subst, arith, ◌&&◌, ◌==◌, nat_lt, length, length-set, slice_index, slice_set}
+use Rattle.std.specs.Prelude.{is_none}
 use Rattle.std.proofs.lemmas.Bool.Decides.{nat_tests}
 use Rattle.std.proofs.lemmas.List.{get_or-set_same}
 use Rattle.std.proofs.lemmas.Option.{none-some, same_Some}
 use Rattle.address_space.specs.Slots.{generation_of, slot_of}
 use Rattle.address_space.proofs.Numbers.{slot_below}
-use Rattle.callbacks.specs.declared.Frame.{Frame}
 use Rattle.elf_image.specs.declared.place.Function.{Function}
 use Rattle.elf_image.specs.declared.place.Function.TheVariants as function
 use Rattle.elf_image.specs.Layout.{ImageData, function_at}
@@ -37,21 +36,21 @@ use Rattle.lib_table.specs.Searches.{probe_rsp}
 use Rattle.journal_pack.specs.declared.entry.Entry.TheVariants.{Ev}
 use Rattle.basic_blocks.specs.Places.{is_code_place}
 use Rattle.machine_model.specs.CaseData.{CaseData}
-use Rattle.machine_model.specs.State.{Core, Machine, is_live, thread_in}
-use Rattle.machine_model.specs.Step.{ask_of, asked_by, called as core_after, called_with, carried_out, core_with, exit_by, later, privately, row_at, served, serving, waits_at, waits_for}
-use Rattle.machine_model.specs.Gated.{Both, Stand, advance, between_blocks, entered, gated_steps, onward, stand_at, within_block}
+use Rattle.machine_model.specs.State.{Core, Machine, is_live}
+use Rattle.machine_model.specs.Step.{ask_of, asked_by, called as core_after, called_with, carried_out, core_with, exit_by, later, privately, row_at, served, serving, waits_for}
+use Rattle.machine_model.specs.Gated.{Both, Stand, advance, between_blocks, entered, gated_steps, onward, within_block}
 use Rattle.machine_model.specs.Own.{frames_at, writes_at}
 use Rattle.machine_model.specs.Serial.{AtEvent, rule_at}
 use Rattle.machine_model.proofs.Own.{whole_stays}
 use Rattle.machine_model.proofs.OwnKinds.{call_bad, call_own}
 use Rattle.machine_model.proofs.Settled.{live_slot}
-use Rattle.guest_parts.specs.Standing.{Between, StandsBetween, StandsIn}
+use Rattle.guest_parts.specs.Standing.{StandsBetween, StandsIn}
 use Rattle.guest_parts.specs.Requests.{stand_by}
 use Rattle.guest_parts.specs.Guest.{GuestData, IsGoing, IsWith, LeavesEnded, LeavesWith}
 use Rattle.guest_parts.specs.Points.{point_at}
 use Rattle.guest_parts.specs.Calls.{AsksWith, FitsRegisters, HasKey, IsAtCall, LeavesGone, asked_in, asked_of, frames_after, goes_on, guest_after, place_after, regs_after, request_by, request_of}
 use Rattle.guest_parts.proofs.Entries.{event_comes, some_of}
-use Rattle.guest_parts.proofs.Rows.{IsRequest, row_tells}
+use Rattle.guest_parts.proofs.Rows.{row_tells}
 use Rattle.guest_parts.proofs.Turns.{at_event, not_missing}
 
 -- ---- what stands at an address

@@ -1,5 +1,5 @@
 -- What each kind of entry leaves of a guest and its thread.
-use Rattle.std.proofs.Common.{◌≡◌, ◌≢◌, ℕ, zero, suc, ◌+◌, ◌-◌, ◌^◌, ◌<◌, ◌≤◌, Bool, true, false, cond, List, [], ◌∷◌, ◌++◌, Option, Some, None, refl, sym, ap, ◌∙◌, subst, arith, ◌&&◌, nat_lt, nat_le, length, not, ◌==◌, ◌||◌, inl, inr}
+use Rattle.std.proofs.Common.{◌≡◌, ℕ, zero, suc, ◌+◌, ◌^◌, ◌<◌, ◌≤◌, Bool, true, false, cond, List, [], ◌∷◌, ◌++◌, Option, Some, None, refl, sym, ap, ◌∙◌, subst, arith, ◌&&◌, nat_lt, length, not, ◌==◌, ◌||◌, inl, inr}
 use Rattle.std.proofs.lemmas.Bool.Decides.{nat_tests}
 use Rattle.std.proofs.lemmas.List.{length-append}
 use Rattle.std.proofs.lemmas.Option.{none-some, same_Some}
@@ -31,10 +31,10 @@ use Rattle.machine_model.specs.Conversions.{memory_change_of, memory_width_of}
 use Rattle.elf_image.specs.Layout.{ImageData}
 use Rattle.machine_model.specs.declared.ending.RunEnd.TheVariants as end
 use Rattle.machine_model.specs.CaseData.{CaseData}
-use Rattle.machine_model.specs.State.{Machine, is_live, list_at}
+use Rattle.machine_model.specs.State.{Machine, is_live}
 use Rattle.machine_model.specs.Step.{answered, carried_out, cpu_at, exchanged, missed, refused, waits_at, later, with_cpu, ended, flushed, step_from}
-use Rattle.machine_model.specs.Gated.{Both, Gate, Growing, Latest, Missed, Other, is_between, may_miss, most_grown, Spot, Stand, advance, entered, gated_steps, onward, rest_of, spot_at, spot_last, spot_with, stand_at, with_gate, gate_with, after_flush}
-use Rattle.machine_model.specs.Own.{Clock, IsAhead, IsEntered, IsMade, IsWhole, Standing, frames_at, miss_end, refusal, writes_at}
+use Rattle.machine_model.specs.Gated.{Both, Growing, Latest, Missed, Other, is_between, may_miss, most_grown, Stand, advance, entered, gated_steps, onward, rest_of, spot_at, spot_last, spot_with, stand_at}
+use Rattle.machine_model.specs.Own.{Clock, IsAhead, Standing, frames_at, miss_end, refusal, writes_at}
 use Rattle.machine_model.specs.Ready.{HasGrown}
 use Rattle.machine_model.specs.Serial.{is_missing}
 use Rattle.basic_blocks.specs.Places.{is_code_place}
@@ -45,7 +45,7 @@ use Rattle.guest_parts.specs.Entries.{Misses}
 use Rattle.machine_model.proofs.Own.{advance_made, le_test, lt_test, whole_stays}
 use Rattle.machine_model.proofs.OwnKinds.{bad_own, fence_own, grow_own, flush_own, load_own, load_refused, locked_own, locked_refused, over_own, store_own, miss_own, store_refused, tick_own, wait_own}
 use Rattle.guest_parts.specs.Standing.{Position, Between, Inside, StandsBetween, StandsIn, StandsInside}
-use Rattle.guest_parts.specs.Requests.{GoesOnWith, IsFence, IsLoad, IsLocked, IsStore, stand_by}
+use Rattle.guest_parts.specs.Requests.{GoesOnWith, stand_by}
 use Rattle.guest_parts.specs.Guest.{GuestData, IsGoing, IsWith, LeavesEnded, LeavesFlushed, LeavesGrown, LeavesWith}
 
 pub some_of : {A : Type 0} (o : Option A) (x : A) → o ≡ Some x → IsSome o

@@ -1,5 +1,5 @@
 -- A step that finishes an instruction leaves its address as that of the instruction finished last.
-use Rattle.std.proofs.Common.{◌≡◌, ℕ, ◌+◌, ◌%◌, ◌^◌, Bool, true, false, cond, Option, Some, None, refl, sym, ap, ◌∙◌, subst}
+use Rattle.std.proofs.Common.{◌≡◌, ℕ, ◌+◌, ◌%◌, ◌^◌, Bool, true, false, cond, Option, Some, None, refl, sym, ◌∙◌, subst}
 use Rattle.elf_image.specs.Layout.{ImageData}
 use Rattle.x86_forms.specs.declared.operands.Mem.{Mem}
 use Rattle.x86_forms.specs.declared.operands.Width.{Width}
@@ -13,7 +13,7 @@ use Rattle.x86_model.specs.declared.cpu.Cpu.{Cpu}
 use Rattle.x86_model.specs.declared.want.Change.{Change}
 use Rattle.x86_model.specs.declared.want.Want.{Want}
 use Rattle.x86_model.specs.declared.want.Want.TheVariants as wants
-use Rattle.x86_model.specs.Registers.{going_to, is_wide, put, put_high, with_flags}
+use Rattle.x86_model.specs.Registers.{going_to, is_wide, put, put_high}
 use Rattle.x86_model.specs.Operands.{assigned, given}
 use Rattle.x86_model.specs.Results.{keeps_result}
 use Rattle.x86_model.specs.Accesses.{first_access, loading, locking, exchanging}

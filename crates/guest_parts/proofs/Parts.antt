@@ -1,7 +1,6 @@
 -- A part of a faithful block is what its thread wants.
-use Rattle.std.proofs.Common.{◌≡◌, ℕ, zero, suc, ◌+◌, ◌%◌, ◌^◌, ◌<◌, ◌≤◌, Bool, true, false, cond, List, [], ◌∷◌, Option, Some, None, refl, sym, ap, ◌∙◌, subst, arith, length, drop, nat_lt, ◌==◌}
+use Rattle.std.proofs.Common.{◌≡◌, ℕ, zero, suc, ◌+◌, ◌%◌, ◌^◌, ◌<◌, ◌≤◌, Bool, true, false, cond, List, [], ◌∷◌, Option, Some, None, refl, sym, ap, ◌∙◌, subst, arith, length, drop, ◌==◌}
 use Rattle.std.proofs.lemmas.Bool.Decides.{nat_tests}
-use Rattle.std.proofs.lemmas.List.{length-drop}
 use Rattle.std.specs.Prelude.{option_and_then, slice_index}
 use Rattle.elf_image.specs.Layout.{ImageData}
 use Rattle.guest_state.specs.declared.virtual_state.Virtual.{Virtual}
@@ -27,7 +26,7 @@ use Rattle.basic_blocks.specs.Placed.{Placed}
 use Rattle.basic_blocks.specs.Places.{instr_at, is_code_place}
 use Rattle.basic_blocks.specs.Reach.{is_among}
 use Rattle.basic_blocks.specs.Span.{block_at, span}
-use Rattle.lift_table.specs.Block.{IsFaithfulTo, MatchesThere, left_of, place_in, trap_block}
+use Rattle.lift_table.specs.Block.{IsFaithfulTo, MatchesThere, left_of, place_in}
 use Rattle.lift_table.specs.Faithful.{AreFaithful, MatchesAfter, MatchesAt, MatchesWithin, answer_bits, left_after, takes_answer, under_way}
 use Rattle.lift_table.specs.Follow.{Meets, having}
 use Rattle.lift_table.specs.LiftLines.{alone, ir_width}
@@ -36,7 +35,7 @@ use Rattle.machine_model.specs.Gated.{Stand, between_blocks, entered, gated_step
 use Rattle.machine_model.specs.InBlocks.{addresses}
 use Rattle.machine_model.specs.Step.{privately}
 use Rattle.machine_model.proofs.Finishing.{want_code}
-use Rattle.guest_parts.specs.Standing.{IsLiftedAt, IsTyped, StandsAfter, StandsBetween, StandsInside, end_of, has_more, last_after, last_before, last_in, left_before}
+use Rattle.guest_parts.specs.Standing.{IsTyped, StandsAfter, StandsInside, end_of, has_more, last_after, last_before, left_before}
 use Rattle.guest_parts.specs.Requests.{Finishes, FollowsItsThread, GoesOnWith, IsWanted, StandOn, stand_by}
 use Rattle.guest_parts.proofs.Finish.{want_last}
 use Rattle.guest_parts.proofs.Places.{AreCode, block_code, code_at, faithful_at, first_at, further, last_next, left_length, next_place, next_same, nil_cons, no_instr, none_left}

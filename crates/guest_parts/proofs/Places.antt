@@ -1,5 +1,5 @@
 -- The instructions of a block, part by part.
-use Rattle.std.proofs.Common.{◌≡◌, ℕ, zero, suc, ◌+◌, ◌-◌, ◌%◌, ◌^◌, ◌<◌, ◌≤◌, Bool, true, false, cond, List, [], ◌∷◌, Option, Some, None, refl, sym, ap, ◌∙◌, subst, arith, length, drop}
+use Rattle.std.proofs.Common.{◌≡◌, ℕ, zero, suc, ◌+◌, ◌-◌, ◌<◌, Bool, true, false, cond, List, [], ◌∷◌, Option, Some, None, refl, sym, ap, ◌∙◌, arith, length, drop}
 use Rattle.std.proofs.lemmas.List.{length-drop}
 use Rattle.std.specs.Prelude.{slice_index}
 use Rattle.elf_image.specs.Layout.{ImageData}
@@ -14,7 +14,7 @@ use Rattle.ir_syntax.specs.declared.block.Part.{Part}
 use Rattle.basic_blocks.specs.Onward.{next_after}
 use Rattle.basic_blocks.specs.Placed.{Placed}
 use Rattle.basic_blocks.specs.Places.{is_code_place, instr_at}
-use Rattle.basic_blocks.specs.Span.{block_from, block_up_to, block_with, placed}
+use Rattle.basic_blocks.specs.Span.{block_from, block_up_to, placed}
 use Rattle.lift_table.specs.Block.{left_of, place_in}
 use Rattle.lift_table.specs.Faithful.{AreFaithful, left_after, takes_answer, under_way}
 use Rattle.guest_parts.specs.Standing.{last_after, last_in, places_in}

@@ -1,9 +1,8 @@
 -- What a row of the library leaves of the thread that asks: it lives on in its slot, unless it ended or the run did, and
 -- what is answered to it fits its registers.
-use Rattle.std.proofs.Common.{◌≡◌, ◌≢◌, ℕ, zero, suc, ◌+◌, ◌-◌, ◌*◌, ◌%◌, ◌^◌, ◌<◌, ◌≤◌, ◌⊎◌, inl, inr, Bool, true, false, cond, List, Option, Some, None, refl, sym, ap, ◌∙◌, subst, arith, slice_index_or, ◌==◌, nat_lt, nat_le, length}
+use Rattle.std.proofs.Common.{◌≡◌, ◌≢◌, ℕ, zero, suc, ◌+◌, ◌-◌, ◌*◌, ◌%◌, ◌^◌, ◌<◌, ◌⊎◌, inl, inr, Bool, true, false, cond, Option, Some, None, refl, sym, ap, ◌∙◌, subst, arith, slice_index_or, ◌==◌, nat_lt, length}
 use Rattle.std.specs.Prelude.{⊤, not, ◌||◌, option_map, min, ℤ, pos, negsuc}
 use Rattle.std.specs.FinMap.{get, remove}
-use Rattle.std.proofs.lemmas.Bool.Decides.{nat_tests}
 use Rattle.std.proofs.lemmas.List.{get_or-set_other}
 use Rattle.std.proofs.lemmas.List.Quantifiers.{position-Some}
 use Rattle.address_space.specs.Slots.{slot_of, generation_of}
@@ -14,7 +13,7 @@ use Rattle.elf_image.specs.declared.place.Function.TheVariants.{PthreadCreate, P
 use Rattle.callbacks.specs.declared.Frame.{Frame}
 use Rattle.callbacks.specs.declared.Next.{Next}
 use Rattle.callbacks.specs.declared.Next.TheVariants as next
-use Rattle.callbacks.specs.Frame.{element, middle, probe, probing, resumed, resumed_for, searched}
+use Rattle.callbacks.specs.Frame.{element, middle, probe, resumed, resumed_for, searched}
 use Rattle.sync_more.specs.declared.ask.SyncName.{SyncName}
 use Rattle.sync_more.specs.declared.ask.SyncName.TheVariants as name
 use Rattle.sync_more.specs.declared.ask.Outcome.{Outcome}
@@ -37,7 +36,7 @@ use Rattle.tso_memory.specs.Memory.{Memory}
 use Rattle.lib_table.specs.declared.answer.BadKind.{BadKind}
 use Rattle.lib_table.specs.declared.answer.BadKind.TheVariants.{Access, Depth}
 use Rattle.lib_table.specs.declared.answer.Called.{Called}
-use Rattle.lib_table.specs.declared.answer.Called.TheVariants.{Back, Probe, Over, Stay}
+use Rattle.lib_table.specs.declared.answer.Called.TheVariants.{Probe}
 use Rattle.lib_table.specs.declared.ask.Ask.{Ask}
 use Rattle.lib_table.specs.declared.ask.Asked.{Asked}
 use Rattle.lib_table.specs.declared.ask.Asked.TheVariants.{Lib, EndDoor, CallDoor}
@@ -45,8 +44,8 @@ use Rattle.lib_table.specs.declared.life.Life.{Life}
 use Rattle.lib_table.specs.declared.life.Life.TheVariants.{Unborn, Live, Ended, Joined}
 use Rattle.lib_table.specs.declared.slot.Slot.{Slot}
 use Rattle.lib_table.specs.Library.{LibraryData, free_slot, id_of, is_free, is_held, is_held_by, is_running, is_unborn, life_at, life_in, new_slot, number_at, slot_at, with_life, with_slot}
-use Rattle.lib_table.specs.Outcome.{RowResult, Done, Waits, Bad, a1, a2, a3, a4, answer, low_32, put_word, returned, sync_args, unless_denied, unreadable, unwritable, word_at}
-use Rattle.lib_table.specs.Threads.{born_if, create, ended, end_door, first_rsp, join, joined, joining, self_id}
+use Rattle.lib_table.specs.Outcome.{RowResult, Done, Waits, Bad, a1, a2, a3, a4, low_32, put_word, returned, sync_args, unless_denied, unreadable, unwritable, word_at}
+use Rattle.lib_table.specs.Threads.{born_if, create, ended, end_door, first_rsp, join, joining, self_id}
 use Rattle.lib_table.specs.Mutexes.{destroy, init, lock, taken, trylock, unlock}
 use Rattle.lib_table.specs.Searches.{after_routine, call_door, compared, comparison, new_frame, probe_rsp, search_for, searching, searching_on}
 use Rattle.lib_table.specs.Streams.{read, write}

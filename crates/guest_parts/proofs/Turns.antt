@@ -1,12 +1,12 @@
 -- A turn goes on from point to point.
-use Rattle.std.proofs.Common.{◌≡◌, ◌≢◌, ℕ, zero, suc, ◌+◌, ◌-◌, ◌<◌, ◌≤◌, Bool, true, false, cond, List, [], ◌∷◌, ◌++◌, Option, Some, None, refl, sym, ap, ◌∙◌, subst, arith, ◌==◌, nat_le, ◌&&◌, not, ◌||◌, ◌⊎◌, inl, inr, length}
+use Rattle.std.proofs.Common.{◌≡◌, ◌≢◌, ℕ, zero, suc, ◌+◌, ◌-◌, ◌<◌, ◌≤◌, Bool, true, false, cond, List, [], ◌∷◌, ◌++◌, Option, Some, None, refl, ap, ◌∙◌, subst, arith, ◌==◌, nat_le, ◌&&◌, not, ◌||◌, length}
 use Rattle.std.proofs.lemmas.Bool.Decides.{nat_tests}
 use Rattle.std.proofs.lemmas.Option.{option_and_then_some, none-some, same_Some, cond_some}
 use Rattle.std.specs.Prelude.{option_and_then, is_none}
 use Rattle.address_space.specs.Slots.{slot_of}
 use Rattle.elf_image.specs.Layout.{ImageData}
 use Rattle.journal_pack.specs.declared.entry.Entry.{Entry}
-use Rattle.journal_pack.specs.declared.entry.Entry.TheVariants.{Ev, Tick, Flush, Wait, Over}
+use Rattle.journal_pack.specs.declared.entry.Entry.TheVariants.{Ev, Tick, Wait, Over}
 use Rattle.x86_model.specs.declared.cpu.Cpu.{Cpu}
 use Rattle.x86_model.specs.declared.want.Want.{Want}
 use Rattle.x86_model.specs.declared.want.Want.TheVariants as wants
@@ -19,9 +19,8 @@ use Rattle.machine_model.specs.declared.ending.RunEnd.{RunEnd}
 use Rattle.machine_model.specs.CaseData.{CaseData}
 use Rattle.machine_model.specs.State.{is_live, list_at}
 use Rattle.machine_model.specs.Step.{asked_by, privately, waits_at}
-use Rattle.machine_model.specs.Gated.{Both, Stand, advance, between_blocks, entered, gated_step, gated_steps, is_between, moved_on, stand_at, within_block}
-use Rattle.machine_model.specs.Own.{IsAhead}
-use Rattle.machine_model.specs.Serial.{AreReaches, AtEvent, AtLimit, AtMiss, AtMost, GoesOn, Point, Reaches, Rule, Turn, act, by_limit, by_miss, by_most, by_want, event, event_by, flush_some, flushed_before, is_missing, is_over, make, next_by, next_point, on_to, point_of, point_on, rule_at, stop_from, told_waiting, turn_from, unless_over, with_entry, with_new}
+use Rattle.machine_model.specs.Gated.{Both, Stand, advance, between_blocks, entered, gated_step, gated_steps, is_between, moved_on, within_block}
+use Rattle.machine_model.specs.Serial.{AtEvent, AtLimit, AtMiss, AtMost, GoesOn, Point, Rule, Turn, act, by_limit, by_miss, by_most, by_want, event, event_by, flush_some, flushed_before, is_missing, is_over, make, next_by, next_point, on_to, point_of, point_on, rule_at, stop_from, told_waiting, turn_from, unless_over, with_new}
 use Rattle.machine_model.proofs.NamesEntries.{makes}
 use Rattle.guest_parts.specs.Points.{Acts, ComesOut, ComesTo, GoesOnAs, point_at, turn_of, waiting_of}
 

@@ -1,7 +1,6 @@
 -- Typed parts, one after another.
-use Rattle.std.proofs.Common.{◌≡◌, ℕ, ◌^◌, ◌<◌, Bool, true, false, ◌&&◌, List, [], ◌∷◌, refl, sym, ap, ◌∙◌, subst}
+use Rattle.std.proofs.Common.{◌≡◌, ℕ, ◌^◌, ◌<◌, true, false, ◌&&◌, List, ◌∷◌, refl, sym, subst}
 use Rattle.std.proofs.lemmas.Bool.{and_parts, ltb-true}
-use Rattle.std.specs.Prelude.{nat_lt}
 use Rattle.guest_state.specs.declared.virtual_state.Virtual.{Virtual}
 use Rattle.ir_meaning.specs.Does.{answered, does}
 use Rattle.ir_meaning.specs.Ready.{Answers, Fits, IsReady, IsReadyUnder}
@@ -10,7 +9,7 @@ use Rattle.ir_syntax.specs.declared.block.Block.{Block}
 use Rattle.ir_syntax.specs.declared.block.Part.{Part}
 use Rattle.ir_syntax.specs.declared.line.PartEnd.{PartEnd}
 use Rattle.ir_syntax.specs.declared.line.PartEnd.TheVariants.{Tick, Load, Store, StoreGo, Fence, Locked, LockedCmpxchg, Divide, Go, Branch, BadCode}
-use Rattle.ir_syntax.specs.Typed.{IsWellTyped, Types, are_parts_typed, are_typed, goes_on, holds, is_empty, is_end_right, is_end_typed, is_part_typed, is_temp, types_after_all, types_after_end, types_after_part, unwritten}
+use Rattle.ir_syntax.specs.Typed.{IsWellTyped, Types, are_parts_typed, are_typed, holds, is_empty, is_end_right, is_end_typed, is_part_typed, is_temp, types_after_all, types_after_end, types_after_part, unwritten}
 use Rattle.ir_syntax.specs.Width.{bits_of}
 use Rattle.lift_table.specs.Faithful.{answer_bits, takes_answer}
 use Rattle.guest_parts.specs.Standing.{IsTyped}

@@ -1,20 +1,19 @@
 -- A call of the library, or a return to a door: what the guest asks, what the answer makes of it, and what the entry leaves
 -- of guest and thread.
-use Rattle.std.specs.Prelude.{◌≡◌, ◌≢◌, ℕ, ◌+◌, ◌-◌, ◌^◌, ◌<◌, ◌⊎◌, Bool, true, false, List, [], ◌∷◌, ◌++◌, length, slice_get, slice_index, slice_set, Option, Some, None, ⊤}
+use Rattle.std.specs.Prelude.{◌≡◌, ◌≢◌, ℕ, ◌-◌, ◌^◌, ◌<◌, ◌⊎◌, Bool, true, false, List, [], ◌∷◌, ◌++◌, length, slice_get, slice_index, slice_set, Option, Some, None, ⊤}
 use Rattle.address_space.specs.Slots.{slot_of}
 use Rattle.callbacks.specs.declared.Frame.{Frame}
 use Rattle.elf_image.specs.declared.place.Function.{Function}
 use Rattle.elf_image.specs.declared.place.Function.TheVariants as function
 use Rattle.elf_image.specs.Layout.{ImageData, function_at}
-use Rattle.guest_state.specs.declared.virtual_state.Virtual.{Virtual}
 use Rattle.lib_table.specs.declared.answer.BadKind.{BadKind}
 use Rattle.lib_table.specs.declared.answer.Called.{Called}
 use Rattle.lib_table.specs.declared.answer.Called.TheVariants.{Back, Probe, Over, Stay}
 use Rattle.lib_table.specs.declared.ask.Ask.{Ask}
 use Rattle.lib_table.specs.declared.ask.Asked.{Asked}
-use Rattle.lib_table.specs.declared.ask.Asked.TheVariants.{Lib, EndDoor, CallDoor}
+use Rattle.lib_table.specs.declared.ask.Asked.TheVariants.{Lib, EndDoor}
 use Rattle.lib_table.specs.Library.{LibraryData}
-use Rattle.lib_table.specs.Outcome.{RowResult, Done, Bad}
+use Rattle.lib_table.specs.Outcome.{Done, Bad}
 use Rattle.lib_table.specs.Row.{row, waits}
 use Rattle.lib_table.specs.Searches.{probe_rsp}
 use Rattle.tso_memory.specs.Memory.{Memory}

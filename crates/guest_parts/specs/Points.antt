@@ -1,11 +1,9 @@
 -- A turn under way, from the points at which its thread is.
-use Rattle.std.specs.Prelude.{◌≡◌, ℕ, suc, ◌+◌, ◌-◌, ◌<◌, ◌≤◌, Bool, true, false, List, Option, Some, None, IsSome, ◌⊎◌}
-use Rattle.address_space.specs.Slots.{slot_of}
+use Rattle.std.specs.Prelude.{◌≡◌, ℕ, ◌-◌, true, false, List, Some}
 use Rattle.journal_pack.specs.declared.entry.Entry.{Entry}
 use Rattle.machine_model.specs.CaseData.{CaseData}
 use Rattle.machine_model.specs.Gated.{Both, Stand}
-use Rattle.machine_model.specs.State.{is_live}
-use Rattle.machine_model.specs.Serial.{AreReaches, Point, Reaches, Rule, Turn, act, point_of, rule_at, stop_from, turn_from}
+use Rattle.machine_model.specs.Serial.{AreReaches, Point, Reaches, Rule, Turn, act, rule_at, stop_from, turn_from}
 
 abbrev pub point_at : ℕ → Stand → Point
 point_at k d = record { k = k; stand = d }

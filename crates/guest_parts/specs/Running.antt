@@ -1,5 +1,5 @@
 -- What running the parts of a block comes to.
-use Rattle.std.specs.Prelude.{◌≡◌, ℕ, zero, suc, ◌+◌, ◌-◌, ◌^◌, ◌<◌, ◌≤◌, ◌⊎◌, ◌==◌, nat_lt, if◌then◌else◌, List, ◌∷◌, drop, length, slice_index, Option, Some, None, option_and_then}
+use Rattle.std.specs.Prelude.{◌≡◌, ℕ, ◌+◌, ◌^◌, ◌<◌, ◌≤◌, ◌⊎◌, ◌==◌, nat_lt, if◌then◌else◌, List, ◌∷◌, drop, length, slice_index, Option, Some, None}
 use Rattle.elf_image.specs.Layout.{ImageData}
 use Rattle.guest_state.specs.declared.virtual_state.Virtual.{Virtual}
 use Rattle.ir_meaning.specs.Does.{does}

@@ -1,4 +1,4 @@
-use Rattle.std.proofs.Common.{◌≡◌, ◌+◌, ◌<◌, ◌≤◌, length, get_or, Option, Some, sym, ap, ◌∙◌, arith, ℕ}
+use Rattle.std.proofs.Common.{◌≡◌, ◌+◌, ◌<◌, ◌≤◌, length, get_or, Some, sym, ap, arith}
 use Rattle.guest_parts.proofs.block.one_part.Goals as goal
 use Rattle.guest_parts.proofs.Runs.{ran_on, ran_out, ran_typed}
 use Rattle.guest_parts.specs.Running.{leads_to}

@@ -1,4 +1,4 @@
-use Rattle.std.proofs.Common.{◌≡◌, ◌+◌, ◌-◌, ◌<◌, ◌≤◌, ℕ, List, drop, length, arith, Fits, w64, ◌^◌}
+use Rattle.std.proofs.Common.{◌+◌, ◌<◌, ◌≤◌, arith, ◌^◌}
 use Rattle.guest_parts.proofs.block.run_parts.Goals as goal
 use Rattle.guest_parts.proofs.Runs.{rises_more, rises_none, run_none, run_on, run_out}
 

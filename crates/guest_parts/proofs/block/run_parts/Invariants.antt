@@ -1,4 +1,4 @@
-use Rattle.std.proofs.Common.{◌≡◌, ◌+◌, ◌-◌, ◌<◌, ◌≤◌, ℕ, List, drop, length}
+use Rattle.std.proofs.Common.{◌-◌, ◌<◌, ◌≤◌, ℕ, List, drop, length}
 use Rattle.elf_image.specs.Layout.{ImageData}
 use Rattle.machine_model.specs.Gated.{Stand}
 use Rattle.guest_parts.specs.Standing.{IsTyped, StandsInside}
