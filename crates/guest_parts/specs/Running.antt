@@ -105,6 +105,12 @@ StopsBelow stop.Most k most = k ≡ most
 StopsBelow (stop.Left to) k most = k ≤ most
 StopsBelow (stop.Asks request) k most = k + 1 ≤ most
 
+-- the last part of a block is a step, too
+abbrev pub GoesFurther : Stop → ℕ → ℕ → Type 0
+GoesFurther stop.Most old k = Unit {0}
+GoesFurther (stop.Left to) old k = old < k
+GoesFurther (stop.Asks request) old k = Unit {0}
+
 abbrev pub StaysInside : Stop → Block → ℕ → Virtual → Type 0
 StaysInside stop.Most b n u = (n + 1 ≤ length b.parts) × IsTyped (drop n b.parts) u
 StaysInside (stop.Left to) b n u = n + 1 ≤ length b.parts

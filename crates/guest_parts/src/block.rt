@@ -4,7 +4,7 @@ ghost use Rattle.std.specs.Prelude.{◌≡◌, ◌+◌, ◌-◌, ◌<◌, ◌≤
 ghost use Rattle.elf_image.specs.Layout.{ImageData};
 ghost use Rattle.machine_model.specs.Gated.{Stand};
 ghost use Rattle.guest_parts.specs.Standing.{IsTyped, StandsInside, end_of};
-ghost use Rattle.guest_parts.specs.Running.{Leaves, Rises, StaysInside, StepIs, StopIs, StopsBelow, leads_to, one_more, runs_for};
+ghost use Rattle.guest_parts.specs.Running.{GoesFurther, Leaves, Rises, StaysInside, StepIs, StopIs, StopsBelow, leads_to, one_more, runs_for};
 
 use crate::engine::Engine;
 use basic_blocks::goes_on_after_its_bytes;
@@ -91,6 +91,7 @@ pub fn run_parts<N: Engine>(
     ensures stop { (image : ImageData) (grown : List ℕ) (last : ℕ) (d : Stand) → StandsInside image grown block.now part.old last state.old d → StopIs result image grown block.now part.new (k.new - k.old) last state.new d }
     ensures stays { StaysInside result block.now part.new state.new }
     ensures later { k.old ≤ k.new }
+    ensures further { GoesFurther result k.old k.new }
     ensures few { StopsBelow result k.new most }
     ensures count { Rises (N.count engine.old) (N.count engine.new) (runs_for result (k.new - k.old)) }
 {

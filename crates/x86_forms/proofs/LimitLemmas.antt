@@ -2,7 +2,7 @@
 use Rattle.std.proofs.Common.{◌≡◌, ◌≢◌, ℕ, zero, suc, ◌+◌, ◌-◌, ◌*◌, ◌%◌, ◌^◌, ◌<◌, ◌≤◌, ℤ, Bool, true, false, cond, ◌&&◌, ◌||◌, List, [], ◌∷◌, ◌++◌, inl, inr, length, take, Option, Some, None, refl, sym, subst, arith, ◌∙◌}
 use Rattle.std.specs.Prelude.{nat_eq, nat_le, nat_lt, ⊤}
 use Rattle.std.specs.List.{list_all}
-use Rattle.std.proofs.lemmas.Bool.{and_parts, both_ways, eqb-true, eqb-false, ltb-true, leb-true, cases_Bool, cond_both}
+use Rattle.std.proofs.lemmas.Bool.{and_parts, both_ways, eqb-true, eqb-false, leb-true, cases_Bool, cond_both}
 use Rattle.std.proofs.lemmas.List.Folds.{list_all-append}
 use Rattle.std.proofs.lemmas.Option.{same_Some}
 use Rattle.x86_forms.specs.declared.operands.Width.{Width}
