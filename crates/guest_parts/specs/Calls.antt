@@ -174,4 +174,3 @@ StayActs = (c : CaseData) (t : ℕ) (q : Point) (s : Turn) (b : Both) (journal :
 abbrev pub WaitActs : Type 0
 WaitActs = (c : CaseData) (t : ℕ) (q : Point) (s : Turn) (b : Both) (journal : List Entry) (ages : List ℕ) (what : Asked) → asked_by (want c.image q.stand.cpu) ≡ Some what → flush_some c t (length (list_at s.both.machine (slot_of t))) s ≡ Some (turn_of b journal ages) → (n : Both) → 0 < q.k → waits_at c.image b.machine t q.stand.cpu ≡ true → advance c b (Wait t q.k) ≡ Some n
     → Acts c t q s AtEvent (waiting_of n (journal ++ Wait t q.k ∷ []) ages)
-
