@@ -143,7 +143,7 @@ abbrev pub CallAnswers : Type 0
 CallAnswers = (c : CaseData) (b : Both) (t : ℕ) (g : GuestData) (d : Stand) (a : ℕ) (what : Asked) → IsGoing b t → IsWith c b t g d → HasRoom c b g → IsAtCall c g a what → is_none_waiting (writes_at b t) ≡ true → (library : LibraryData) (memory : Memory) (called : Called) → row b.machine.library b.machine.tso.memory t (request_of g what) ≡ Done library memory called → goes_on called ≡ true → FitsRegisters called
     → LeavesWith c b t (Ev t g.k) (guest_after g a what called)
 
--- `exit` ends the run, and a return to the door of thread ends the thread; no other request is answered so
+-- `exit` ends the run, and the return of a start function ends its thread; no other request is answered so
 abbrev pub CallEnds : Type 0
 CallEnds = (c : CaseData) (b : Both) (t : ℕ) (g : GuestData) (d : Stand) (a : ℕ) (what : Asked) → IsGoing b t → IsWith c b t g d → HasRoom c b g → IsAtCall c g a what → is_none_waiting (writes_at b t) ≡ true → (library : LibraryData) (memory : Memory) → row b.machine.library b.machine.tso.memory t (request_of g what) ≡ Done library memory Over
     → ((what ≡ Lib function.Exit) × LeavesEnded c b (Ev t g.k)) ⊎ ((what ≡ EndDoor) × LeavesGone c b t (Ev t g.k))
