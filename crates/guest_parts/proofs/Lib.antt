@@ -7,4 +7,4 @@ pub mod Turns
 pub mod Begins
 pub mod Entries
 pub mod Rows
-pub mod Calls
+pub mod CallEntries

@@ -143,7 +143,7 @@ abbrev pub CallAnswers : Type 0
 CallAnswers = (c : CaseData) (b : Both) (t : ℕ) (g : GuestData) (d : Stand) (a : ℕ) (what : Asked) → IsGoing b t → IsWith c b t g d → HasRoom c b g → IsAtCall c g a what → is_none_waiting (writes_at b t) ≡ true → (library : LibraryData) (memory : Memory) (called : Called) → row b.machine.library b.machine.tso.memory t (request_of g what) ≡ Done library memory called → goes_on called ≡ true → FitsRegisters called
     → LeavesWith c b t (Ev t g.k) (guest_after g a what called)
 
--- `exit` ends the run, and a return to the door of thread ends the thread; no other request is answered so
+-- `exit` ends the run, and the return of a start function ends its thread; no other request is answered so
 abbrev pub CallEnds : Type 0
 CallEnds = (c : CaseData) (b : Both) (t : ℕ) (g : GuestData) (d : Stand) (a : ℕ) (what : Asked) → IsGoing b t → IsWith c b t g d → HasRoom c b g → IsAtCall c g a what → is_none_waiting (writes_at b t) ≡ true → (library : LibraryData) (memory : Memory) → row b.machine.library b.machine.tso.memory t (request_of g what) ≡ Done library memory Over
     → ((what ≡ Lib function.Exit) × LeavesEnded c b (Ev t g.k)) ⊎ ((what ≡ EndDoor) × LeavesGone c b t (Ev t g.k))
@@ -174,4 +174,3 @@ StayActs = (c : CaseData) (t : ℕ) (q : Point) (s : Turn) (b : Both) (journal :
 abbrev pub WaitActs : Type 0
 WaitActs = (c : CaseData) (t : ℕ) (q : Point) (s : Turn) (b : Both) (journal : List Entry) (ages : List ℕ) (what : Asked) → asked_by (want c.image q.stand.cpu) ≡ Some what → flush_some c t (length (list_at s.both.machine (slot_of t))) s ≡ Some (turn_of b journal ages) → (n : Both) → 0 < q.k → waits_at c.image b.machine t q.stand.cpu ≡ true → advance c b (Wait t q.k) ≡ Some n
     → Acts c t q s AtEvent (waiting_of n (journal ++ Wait t q.k ∷ []) ages)
-

@@ -11,18 +11,24 @@
 //! - `specs/Guest.antt` has what contracts see of a guest and its relation to its thread after a journal (`IsWith`), and
 //!   `specs/Entries.antt` what each kind of entry leaves of it ([`entries_leave_guests`]).
 //! - `specs/Calls.antt` says what a guest asks of the library, what an answer makes of it (`guest_after`), and what the entry
-//!   of such a call leaves ([`calls_leave_guests`]); [`calls_in_turns`] says what it is in a turn.
+//!   of such a call leaves ([`calls_leave_guests`]); [`calls_in_turns`] says what it is in a turn. [`request`],
+//!   [`take_answer`] and [`place_after`] compute them.
 //!
 //! The crate stands on `lift_table` for faithful blocks, on `ir_meaning` for what parts do and on `machine_model` for the
 //! plain machine, blocks under way and the serial order. It knows no shared state: `thread_step` stands on it.
 #![tactic(auto)]
 
 mod block;
+mod calls;
 mod engine;
 mod laws;
+#[cfg(test)]
+mod tests;
 
 pub use block::{Step, Stop, one_part, run_parts};
+pub use calls::{place_after, request, take_answer};
 pub use engine::{Engine, PlainEngine};
 pub use laws::{
-    calls_in_turns, calls_leave_guests, entries_leave_guests, instructions_are_finished, parts_follow_their_thread, turns_go_on,
+    calls_in_turns, calls_leave_guests, entries_leave_guests, instructions_are_finished,
+    parts_follow_their_thread, turns_go_on,
 };

@@ -1,4 +1,4 @@
-use Rattle.guest_parts.proofs.Calls.{answers_fit, asks_with, call_answers, call_comes, call_ends, call_faults, call_stops}
+use Rattle.guest_parts.proofs.CallEntries.{answers_fit, asks_with, call_answers, call_comes, call_ends, call_faults, call_stops}
 use Rattle.guest_parts.proofs.laws.calls_leave_guests.Goals as goal
 
 pub returns-clause-asks : goal.returns-clause-asks

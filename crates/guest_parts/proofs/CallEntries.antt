@@ -148,14 +148,17 @@ stands_after called a last v d s fits =
     let h : Agrees None v d.cpu = s.agrees.1 in
     record {
       left = onward_none d.cpu.mid;
-      agrees = (ap (place_after called) s.agrees.0, record {
-        regs = ap (regs_after called) h.regs;
-        flags = h.flags;
-        mid = h.mid;
-        count = after_count called d.cpu.regs ∙ h.count;
-        each = after_below called d.cpu.regs fits h.each;
-        temps = h.temps;
-      });
+      agrees = (
+        ap (place_after called) s.agrees.0,
+        record {
+          regs = ap (regs_after called) h.regs;
+          flags = h.flags;
+          mid = h.mid;
+          count = after_count called d.cpu.regs ∙ h.count;
+          each = after_below called d.cpu.regs fits h.each;
+          temps = h.temps;
+        },
+      );
       finished = s.finished;
     }
 
@@ -283,15 +286,18 @@ module _ (c : CaseData) (b : Both) (t : ℕ) (g : GuestData) (d : Stand) (a : �
             | inl is ↦ inl (is, record { next = n; comes = q.1; ended = some_of n.machine.ending _ (own.1.ending ∙ ap (exit_by here) is) })
             | inr is ↦
                 let l : n.machine.library ≡ with_life b.machine.library t (Ended (request_of g what).rax) = own.1.library ∙ is.1 in
-                inr (is.0, record {
-                  next = n;
-                  comes = q.1;
-                  whole = whole_stays c b n (Ev t g.k) h.whole q.1;
-                  going = own.1.ending ∙ ap (exit_by here) is.0;
-                  gone = ap (λ z. lib.is_live z t) l ∙ not_live b.machine.library t (request_of g what).rax sized;
-                  free = ap (λ z. lib.thread_in z (slot_of t)) l ∙ none_there b.machine.library t (request_of g what).rax sized;
-                  grown = own.2;
-                })
+                inr (
+                  is.0,
+                  record {
+                    next = n;
+                    comes = q.1;
+                    whole = whole_stays c b n (Ev t g.k) h.whole q.1;
+                    going = own.1.ending ∙ ap (exit_by here) is.0;
+                    gone = ap (λ z. lib.is_live z t) l ∙ not_live b.machine.library t (request_of g what).rax sized;
+                    free = ap (λ z. lib.thread_in z (slot_of t)) l ∙ none_there b.machine.library t (request_of g what).rax sized;
+                    grown = own.2;
+                  },
+                )
           ]
 
     pub call_faults : (kind : BadKind) → row b.machine.library b.machine.tso.memory t (request_of g what) ≡ Bad kind → LeavesEnded c b (Ev t g.k)
