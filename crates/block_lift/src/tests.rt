@@ -6,6 +6,7 @@ use ir_syntax::{Block, Cond, Family, Flag, Op, Part, PartEnd, Seq, Target, Width
 use std::alloc::{AllocError, Global};
 use std::process::Abort;
 use std::test::Fail;
+use x86_forms::{Instr, Operand, Width as Form};
 
 const W: Width = Width::W32;
 
@@ -223,6 +224,29 @@ fn spans_end(rt: HostRuntime) -> Result<(), Fail> {
     assert!(rt; !is_code_place(&image, 0x40_1f10));
     assert!(rt; !is_code_place(&image, 0x7000_00ff_0000));
     laws::every_instruction_lifts();
+    laws::bytes_spell_one_list();
+    laws::known_by_its_bytes();
+    Ok(())
+}
+
+#[test]
+fn instructions_alone(rt: HostRuntime) -> Result<(), Fail> {
+    let alloc = rt.alloc();
+    // mov edi, 7: its number, and the register.
+    let mov = Instr::Mov {
+        w: Form::W32,
+        dst: Operand::Reg(7),
+        src: Operand::Imm(7),
+    };
+    let number = Op::Const { w: W, t: 1, n: 7 };
+    let ops = vec![in alloc; number, put(7, 1)]?;
+    let parts = vec![in alloc; part(ops, PartEnd::Tick)]?;
+    assert!(rt; lift_instr(alloc, &mov, 0x40_1005)? == parts);
+    // jmp exit, which counts from the address after it.
+    let jmp = Instr::Jmp { rel: 0xef6 };
+    let to = Target::Place(0x40_1f00);
+    let parts = vec![in alloc; part(Vec::new(alloc), PartEnd::Go { to })]?;
+    assert!(rt; lift_instr(alloc, &jmp, 0x40_100a)? == parts);
     Ok(())
 }
 
@@ -249,6 +273,26 @@ fn expect_stale(
     }
 }
 
+// The three blocks of the program, in this order, are accepted, and come by rising address.
+fn expect_accepted(
+    rt: &impl Abort,
+    alloc: Global,
+    image: &Image,
+    order: &[u64],
+) -> Result<(), Fail> {
+    let mut blocks = Vec::new(alloc);
+    for a in order {
+        blocks.push(lifted(rt, alloc, image, *a)?)?;
+    }
+    let accepted = accept(alloc, image, blocks).ok().ok_or("accepted")?;
+    let mut rising = Vec::new(alloc);
+    for a in [0x40_1000, 0x40_1014, 0x40_101b] {
+        rising.push(lifted(rt, alloc, image, a)?)?;
+    }
+    assert!(rt; accepted == rising);
+    Ok(())
+}
+
 #[test]
 fn blocks_are_accepted(rt: HostRuntime) -> Result<(), Fail> {
     let alloc = rt.alloc();
@@ -257,14 +301,12 @@ fn blocks_are_accepted(rt: HostRuntime) -> Result<(), Fail> {
         0x31, 0xff, 0xe8, 0xe5, 0x0e, 0, 0,
     ];
     let image = program(alloc, &code)?;
-    let mut blocks = Vec::new(alloc);
-    for a in [0x40_101b, 0x40_1000, 0x40_1014] {
-        blocks.push(lifted(&rt, alloc, &image, a)?)?;
-    }
-    let accepted = accept(alloc, &image, blocks).ok().ok_or("accepted")?;
-    assert!(rt; accepted.len() == 3);
-    for (a, block) in [0x40_1000, 0x40_1014, 0x40_101b].into_iter().zip(&accepted) {
-        assert!(rt; *block == lifted(&rt, alloc, &image, a)?);
+    for order in [
+        [0x40_1000, 0x40_1014, 0x40_101b],
+        [0x40_101b, 0x40_1014, 0x40_1000],
+        [0x40_101b, 0x40_1000, 0x40_1014],
+    ] {
+        expect_accepted(&rt, alloc, &image, &order)?;
     }
     let none = accept(alloc, &image, Vec::new(alloc))
         .ok()
