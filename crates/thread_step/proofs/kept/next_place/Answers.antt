@@ -1,0 +1,22 @@
+use Rattle.std.proofs.Common.{rules, ◌≡◌, ◌≤◌, ◌<◌, ◌-◌, ◌∷◌, ℕ, List, drop, length, slice_index, IfOk, IfSome, ◌+◌, ◌*◌, ◌/◌, ◌%◌, Bool, true, false, nat_eq, nat_lt, [], ◌++◌, slice_index_or, slice_set, bit_and, bit_or, Fits, w8, w32, w64, Bor, MutBor}
+use Rattle.elf_image.specs.Layout.{ImageData}
+use Rattle.ir_meaning.specs.Does.{answered}
+use Rattle.ir_meaning.specs.Ready.{Answers}
+use Rattle.ir_syntax.specs.declared.block.Part.{Part as PartData}
+use Rattle.lift_table.specs.Faithful.{takes_answer}
+use Rattle.machine_model.specs.Gated.{Stand}
+use Rattle.guest_parts.specs.Standing.{IsLiftedAt, IsTyped, StandsInside, end_of, has_more, places_in, places_of}
+use Rattle.guest_parts.specs.Running.{Rises, StaysInside, StopIs, StopsBelow, runs_for}
+use Rattle.thread_step.specs.Kept.{IsKept, AreKept, KeepsBlocks}
+use Rattle.std.proofs.Common.{sym, ap, subst, arith, ◌∙◌}
+use Rattle.thread_step.proofs.Table.{left_by, place_none, place_some}
+use Rattle.thread_step.proofs.kept.next_place.Goals as goal
+
+pub returns-then-i-instrs : goal.returns-then-i-instrs
+returns-then-i-instrs c = λ ps. place_none c.args.at c.args.instrs.now c.args.i.now c.args.part.now ps c.if-i-instrs.true
+
+pub returns-then-not-takes_answer : goal.returns-then-not-takes_answer
+returns-then-not-takes_answer c = λ ps. subst (λ x. x ∷ places_in c.args.at (drop (c.args.i.now + 1) c.args.instrs.now) ps ≡ places_in c.args.at (drop c.args.i.now c.args.instrs.now) (c.args.part.now ∷ ps)) (sym (ap (λ x. x.at) c.placed.view_is)) (place_some c.args.at c.args.instrs.now c.args.i.now (c.args.i.now + 1) c.index-instrs-i.result c.args.part.now ps c.if-i-instrs.false c.index-instrs-i.is (left_by false c.args.i.now (takes_answer c.args.part.now.end) (sym c.if-not-takes_answer.true ∙ c.takes_answer.ensures)))
+
+pub returns-else-not-takes_answer : goal.returns-else-not-takes_answer
+returns-else-not-takes_answer c = λ ps. subst (λ x. x ∷ places_in c.args.at (drop c.args.i.now c.args.instrs.now) ps ≡ places_in c.args.at (drop c.args.i.now c.args.instrs.now) (c.args.part.now ∷ ps)) (sym (ap (λ x. x.at) c.placed.view_is)) (place_some c.args.at c.args.instrs.now c.args.i.now c.args.i.now c.index-instrs-i.result c.args.part.now ps c.if-i-instrs.false c.index-instrs-i.is (left_by true c.args.i.now (takes_answer c.args.part.now.end) (sym c.if-not-takes_answer.false ∙ c.takes_answer.ensures)))

@@ -1,0 +1,31 @@
+use Rattle.std.proofs.Common.{rules, ◌≡◌, ◌+◌, ◌<◌, ◌≤◌, OnOk, length, ℕ, ◌-◌, ◌*◌, ◌/◌, ◌%◌, Bool, true, false, nat_eq, nat_lt, List, [], ◌∷◌, ◌++◌, slice_index_or, slice_set, bit_and, bit_or, Fits, w8, w32, w64, Bor, MutBor}
+use Rattle.address_space.specs.Slots.{slot_of}
+use Rattle.guest_state.specs.declared.virtual_state.Virtual.{Virtual}
+use Rattle.machine_model.specs.Gated.{Stand}
+use Rattle.machine_model.specs.Ready.{HasGrown}
+use Rattle.machine_model.specs.Serial.{AtEvent}
+use Rattle.hall_core.specs.Hall.{both}
+use Rattle.guest_parts.specs.Running.{Rises}
+use Rattle.thread_step.specs.Ages.{AreAges}
+use Rattle.thread_step.specs.Entered.{AlongIn, Asking, Entered}
+use Rattle.thread_step.specs.Turned.{ActIs, AreRules, EntryIs, Ready, StopsIn, TurnIs, rule_of}
+use Rattle.std.proofs.Common.{refl, sym, subst}
+use Rattle.thread_step.proofs.Turning.{along_held, came_stops, entry_failed, entry_with, nothing_made}
+use Rattle.thread_step.proofs.turn.entry.Goals as goal
+
+
+pub returns-in_err-make_place : goal.returns-in_err-make_place
+returns-in_err-make_place g c = λ d ready. entry_failed c.from_residual.result c.args.hall.now c.make_place.new.hall c.args.t c.args.own.now c.args.own.now c.args.table.now.items d c.from_residual.ensures.0 (nothing_made c.args.hall.now c.make_place.new.hall c.args.t c.args.own.now c.args.own.now c.args.table.now.items c.args.table.now.items d d ready c.make_place.ensures.same (along_held c.args.hall.now c.make_place.new.hall c.args.t c.args.own.now c.args.table.now.items d c.make_place.ensures.same ready.along) refl)
+
+pub returns-in_err-came : goal.returns-in_err-came
+returns-in_err-came g c = λ d ready.
+    let m = c.in_err-came.ensures.stretch c.args.t d (along_held c.args.hall.now c.make_place.new.hall c.args.t c.args.own.now c.args.table.now.items d c.make_place.ensures.same ready.along) in
+    entry_failed c.from_residual-in_err-came.result c.args.hall.now c.make_place.new.hall c.args.t c.args.own.now c.stretch.new.own c.stretch.new.table.items d c.from_residual-in_err-came.ensures.0 (nothing_made c.args.hall.now c.make_place.new.hall c.args.t c.args.own.now c.stretch.new.own c.args.table.now.items c.stretch.new.table.items d m.0 ready c.make_place.ensures.same m.1.along m.1.ages)
+
+pub act-requires-clause-stops : goal.act-requires-clause-stops
+act-requires-clause-stops g c =
+    let r = c.requires in
+    came_stops c.in_ok-came.came c.make_place.new.hall c.args.t c.args.own.now c.stretch.new.own c.stretch.new.table.items r.0 (c.in_ok-came.ensures.stretch c.args.t r.0 (along_held c.args.hall.now c.make_place.new.hall c.args.t c.args.own.now c.args.table.now.items r.0 c.make_place.ensures.same r.1.along))
+
+pub returns : goal.returns
+returns g c = λ d ready. entry_with c.in_ok-came.came c.act.result c.args.hall.now c.make_place.new.hall c.act.new.hall c.args.t c.args.own.now c.stretch.new.own c.act.new.own c.args.table.now.items c.stretch.new.table.items c.act.new.table.items d c.make_place.ensures.same ready (c.in_ok-came.ensures.stretch c.args.t d (along_held c.args.hall.now c.make_place.new.hall c.args.t c.args.own.now c.args.table.now.items d c.make_place.ensures.same ready.along)) c.act.ensures

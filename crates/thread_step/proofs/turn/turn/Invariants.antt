@@ -1,0 +1,7 @@
+use Rattle.machine_model.specs.Gated.{Stand}
+use Rattle.thread_step.specs.Turned.{Ready}
+use Rattle.thread_step.proofs.Whole.{OnTheWay}
+use Rattle.thread_step.proofs.turn.turn.Given as goal
+
+abbrev pub invariant-loop-i : goal.invariant-loop-i
+invariant-loop-i g l = (d : Stand) → Ready l.fn.hall l.fn.t l.fn.own l.fn.table.items d → (e : Stand) × OnTheWay l.fn.hall l.hall l.fn.t l.fn.rules l.fn.own l.own l.table.items d l._i e
