@@ -34,7 +34,7 @@ module _ (c : CaseData) (t : ℕ) (b : Both) (j : List Entry) where
   abbrev Now : Turn → Type 0
   Now s = Since c t b j s
 
-  here : (s : Turn) → s.both ≡ b → s.journal ≡ j → Now s
+  pub here : (s : Turn) → s.both ≡ b → s.journal ≡ j → Now s
   unfolding walk
   here s p q = record { entries = []; journal = q ∙ sym (append-nil j); own = All-nil (λ x. thread_of x ≡ Some t); leads = ap (λ x. Some x) (sym p) }
 
@@ -92,7 +92,7 @@ module _ (c : CaseData) (t : ℕ) (b : Both) (j : List Entry) where
   miss_on : (reach : Reaches) (p : Point) (s x : Turn) → Now s → miss c reach t p s ≡ Some x → Now x
   miss_on reach p s x h q = option_and_then_some (after_miss c reach t p.stand.cpu.rip c.strict) (make c (Miss t p.k p.stand.cpu.last p.stand.cpu.rip) s) x q (λ y a r. after_miss_on reach p.stand.cpu.rip c.strict y x (one_more (Miss t p.k p.stand.cpu.last p.stand.cpu.rip) s y refl h a) r)
 
-  act_on : (reach : Reaches) (p : Point) (s x : Turn) (rule : Rule) → Now s → act c reach t p s rule ≡ Some x → Now x
+  pub act_on : (reach : Reaches) (p : Point) (s x : Turn) (rule : Rule) → Now s → act c reach t p s rule ≡ Some x → Now x
   act_on reach p s x AtLimit h q = one_more (Over t p.k) s x refl h q
   act_on reach p s x AtMiss h q = miss_on reach p s x h q
   act_on reach p s x AtMost h q = one_more (Tick t p.k) s x refl h q

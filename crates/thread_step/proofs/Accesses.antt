@@ -94,7 +94,7 @@ bits_fit u w x e h = bits w x (subst (λ z. x < 256 ^ size_of z) (width_is u w e
 
 -- ---- events in a turn
 
-no_flush : (c : CaseData) (t : ℕ) (s : Turn) (n : ℕ) → n ≡ 0 → flush_some c t n s ≡ Some s
+pub no_flush : (c : CaseData) (t : ℕ) (s : Turn) (n : ℕ) → n ≡ 0 → flush_some c t n s ≡ Some s
 unfolding flush_some
 no_flush c t s n e = ap (λ k. flush_some c t k s) e
 
@@ -145,7 +145,7 @@ pub answer_is : (own mid : Own) (kept : KeptData) (part : ℕ) (piece : Part) (o
 answer_is own mid kept part piece None some none = ap (λ (z : Own). record z { k = 0 }) (none refl)
 answer_is own mid kept part piece (Some x) some none = ap (λ (z : Own). record z { k = 0 }) some
 
-none_waiting : (l : List PendingWrite) → length l ≡ 0 → is_none_waiting l ≡ true
+pub none_waiting : (l : List PendingWrite) → length l ≡ 0 → is_none_waiting l ≡ true
 none_waiting [] e = refl
 none_waiting (x ∷ l) e = absurd (omega (arith, e))
 

@@ -33,6 +33,7 @@ use Rattle.guest_parts.proofs.Entries.{grow_leaves}
 use Rattle.guest_parts.proofs.Turns.{made}
 use Rattle.thread_step.specs.Entered.{turn_in}
 use Rattle.thread_step.specs.Growth.{AreOnward, Does, Grew, GrewEach, GrewReach, GrewTarget, InGrowth, IsTargetGrown}
+use Rattle.thread_step.proofs.Adding.{free_none, free_one, free_then}
 use Rattle.thread_step.proofs.Begins.{full_or_begins, grow_all_begins, grow_reach_begins}
 use Rattle.thread_step.proofs.Grown.{among_head, among_tail, reached_code, too_many, ungrown_above, ungrown_in, ungrown_less, ungrown_out}
 
@@ -52,13 +53,14 @@ does_then (Err x) c e f old mid new ages m h = λ y p. h y (sym (ap (option_and_
 -- ---- what growth leaves
 
 pub grew_none : (h : HallData Block) (t a : ℕ) (g : GuestData) (d : Stand) → InGrowth h t a g d → Grew h h t a g d
-grew_none h t a g d i = record { case = refl; growth = i; within = λ x m. m; marks = λ s ne. refl }
+grew_none h t a g d i = record { case = refl; growth = i; within = λ x m. m; free = free_none t h.journal; marks = λ s ne. refl }
 
 pub grew_then : (old mid new : HallData Block) (t a : ℕ) (g : GuestData) (d : Stand) → Grew old mid t a g d → Grew mid new t a g d → Grew old new t a g d
 grew_then old mid new t a g d p q = record {
   case = q.case ∙ p.case;
   growth = q.growth;
   within = λ x m. q.within x (p.within x m);
+  free = free_then t old.journal mid.journal new.journal p.free q.free;
   marks = λ s ne. q.marks s ne ∙ p.marks s ne;
 }
 
@@ -69,6 +71,7 @@ grew_room h v n t a g d e i =
       case = refl;
       growth = record { additive = i.additive; going = i.going; with = i.with; latest = i.latest };
       within = λ x m. m;
+      free = free_none t h.journal;
       marks = λ s ne. refl;
     })
 
@@ -110,6 +113,7 @@ grew_one h t a g d x b i =
           latest = ap (λ (z : Both). (spot_at z.gate (slot_of t)).latest) at ∙ ap (λ (z : Spot). z.latest) own.1 ∙ i.growth.latest;
         };
         within = λ p m. ap (λ (z : Both). is_among z.gate.grown p) at ∙ ap (λ z. is_among z p) l.grown ∙ or_second (x == p) (is_among (grown h) p) m;
+        free = free_one t h.journal e refl;
         marks = λ s ne. get_or-set_other h.marks (slot_of t) s None None ne;
       };
       more = ap (λ (z : Both). z.gate.grown) at ∙ l.grown;

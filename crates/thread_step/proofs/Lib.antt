@@ -2,6 +2,8 @@ pub mod Table
 pub mod Asked
 pub mod Moves
 pub mod Begins
+pub mod Adding
+pub mod Counting
 pub mod Entering
 pub mod Telling
 pub mod Stops
@@ -17,6 +19,8 @@ pub mod Whole
 pub mod Starting
 pub mod Lives
 pub mod SlotTurn
+pub mod OtherGuests
 pub mod Grown
 pub mod Growing
 pub mod Missing
+pub mod Calling

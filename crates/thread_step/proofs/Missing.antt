@@ -1,5 +1,5 @@
 -- A thread's miss, and what follows it.
-use Rattle.std.proofs.Common.{◌≡◌, ℕ, ◌<◌, Bool, true, false, List, [], ◌∷◌, ◌++◌, Option, Some, None, Result, Ok, Err, refl, sym, ap, ◌∙◌, subst, arith, not, ◌&&◌, ◌==◌, inr, length}
+use Rattle.std.proofs.Common.{◌≡◌, ℕ, ◌<◌, Bool, true, false, List, [], ◌∷◌, ◌++◌, Option, Some, None, Result, Ok, Err, refl, sym, ap, ◌∙◌, subst, arith, not, ◌&&◌, ◌==◌, inl, inr, length}
 use Rattle.std.specs.Prelude.{IsSome, option_and_then}
 use Rattle.std.specs.declared.alloc.AllocError.{AllocError}
 use Rattle.std.proofs.lemmas.Bool.Decides.{nat_tests}
@@ -35,6 +35,9 @@ use Rattle.thread_step.specs.Growth.{Grew, GrewTarget, InGrowth, Missed}
 use Rattle.thread_step.specs.Kept.{AreKept}
 use Rattle.thread_step.specs.Own.{Along, IsUnder, data_of, position_of}
 use Rattle.thread_step.specs.Stretched.{StopsAt}
+use Rattle.machine_model.proofs.SerialGated.{made as made_of_turn}
+use Rattle.thread_step.specs.Steps.{AddsFree}
+use Rattle.thread_step.proofs.Adding.{free_none}
 use Rattle.thread_step.proofs.Begins.{miss_begins}
 
 -- a run with an ending doesn't go on
@@ -218,6 +221,9 @@ grown_there image places d e = ap (λ b. is_code_place image d.cpu.rip && is_bet
 live_or_not : {P : Type 0} (b : Bool) → b ≡ true → b ≡ false → P
 live_or_not b x y = absurd (let e : true ≡ false = sym x ∙ y in cc)
 
+missed_journal : (h mid : HallData Block) (t : ℕ) (own : Own) (d : Stand) → make h.case (Miss t own.k d.cpu.last d.cpu.rip) (turn_in h own.ages) ≡ Some (turn_in mid own.ages) → mid.journal ≡ h.journal ++ Miss t own.k d.cpu.last d.cpu.rip ∷ []
+missed_journal h mid t own d p = sym (ap (λ (x : Turn). x.journal) (made_of_turn h.case (Miss t own.k d.cpu.last d.cpu.rip) (turn_in h own.ages) (turn_in mid own.ages) p).is)
+
 -- the target was grown, and what is reached from it, or memory was wanting
 pub miss_is : (result : Result (Unit {0}) AllocError) (h mid new : HallData Block) (t a : ℕ) (own : Own) (table : Table) (d : Stand) → h.case.strict ≡ false → length (grown h) < most_grown → Missed h mid t a own (record own { k = 0 }) table d → GrewTarget result mid new t a (data_of (record own { k = 0 })) (stand_at (both mid) (slot_of t)) → MissIs result h new t own (record own { k = 0 }) table d
 miss_is (Ok u) h mid new t a own table d additive few m q =
@@ -252,6 +258,7 @@ miss_is (Err e) h mid new t a own table d additive few m q =
           ap (λ (c : CaseData). full_or c reach t a (turn_in mid own.ages) false) m.case
           ∙ sym (missed_acts h.case t d own.k a (turn_in h own.ages) (turn_in mid own.ages) false additive m.made m.rip (other_test (length (grown mid)) most_grown (let n = ap length m.same in omega (arith, n, few))) reach)
           ∙ p);
+      tells = inr (record { source = d.cpu.last; target = d.cpu.rip; free = subst (λ j. AddsFree t j new.journal) (missed_journal h mid t own d m.made) q.0.free }, refl);
       marks = λ s ne. q.0.marks s ne ∙ m.marks s ne;
     }
 
@@ -264,6 +271,7 @@ not_begun h v t own after table d same still along =
       along = along;
       fresh = λ f. f;
       begins = λ reach right x p. miss_begins h.case reach t (point_at own.k d) (turn_in h own.ages) x p;
+      tells = inl (free_none t h.journal, refl);
       marks = λ s ne. refl;
     }))
 

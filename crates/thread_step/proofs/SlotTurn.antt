@@ -9,14 +9,21 @@ use Rattle.ir_syntax.specs.declared.block.Block.{Block}
 use Rattle.journal_pack.specs.declared.entry.Entry.{Entry}
 use Rattle.machine_model.specs.declared.ending.RunEnd.{RunEnd}
 use Rattle.machine_model.specs.CaseData.{CaseData}
-use Rattle.machine_model.specs.Gated.{Both, Stand, gated_steps, stand_at}
+use Rattle.machine_model.specs.Gated.{Both, Leads, Stand, begin, gated_steps, stand_at}
 use Rattle.machine_model.specs.Own.{IsAhead}
 use Rattle.machine_model.specs.Ready.{HasGrown}
 use Rattle.machine_model.specs.Serial as serial
 use Rattle.machine_model.specs.Serial.{AreReaches, Reaches, Run, Turn, one_turn, point_of, run_after, turn, turn_unless}
 use Rattle.machine_model.specs.State.{is_live, thread_in}
 use Rattle.machine_model.proofs.NamesRounds.{thread_at_slot}
-use Rattle.machine_model.proofs.Reaches.{same_reaches}
+use Rattle.lib_table.specs.declared.life.Life.{Life}
+use Rattle.lib_table.specs.declared.life.Life.TheVariants.{Ended as HasEnded, Joined, Live, Unborn}
+use Rattle.lib_table.specs.Library.{is_running, is_unborn, life_at}
+use Rattle.machine_model.proofs.Own.{whole_from}
+use Rattle.machine_model.proofs.SerialGated.{turn_gated}
+use Rattle.machine_laws.proofs.Spans.{unborn_before}
+use Rattle.machine_model.proofs.Reaches.{are_reaches, reach_of, same_reaches}
+use Rattle.machine_laws.proofs.Turns.{turn_leads}
 use Rattle.hall_core.specs.Hall.{HallData, both, machine, mark_at}
 use Rattle.guest_parts.specs.Points.{point_at, turn_of, waiting_of}
 use Rattle.thread_step.specs.declared.guest.Guest.{Guest}
@@ -26,15 +33,20 @@ use Rattle.thread_step.specs.declared.rules.Turned.{Turned}
 use Rattle.thread_step.specs.declared.rules.Turned.TheVariants.{Ran, Waiting, Ended, Idle, Memory}
 use Rattle.thread_step.specs.Alone.{BeginsOneTurn, InRun, IsAt, IsOneTurn}
 use Rattle.thread_step.specs.Entered.{OthersKeepMarks, Table, turn_in}
-use Rattle.thread_step.specs.Guest.{IsBefore, IsLeft, IsReady, IsStanding, StandsWith}
+use Rattle.thread_step.specs.Guest.{HasNone, IsLeft, IsNewborn, IsReady, IsStanding, StandsWith}
+use Rattle.thread_step.specs.Steps.{Adds}
 use Rattle.thread_step.specs.Turned.{IsTurn, Ready, TurnIs, serial_rules}
-use Rattle.thread_step.proofs.Lives.{lives_there}
+use Rattle.thread_step.proofs.Lives.{LivesOrNone, lives_there, none_left, own_lives}
 
 -- ---- where a guest stands
 
 begun_or_not : (o : Option ℕ) (t : ℕ) → (o ≡ Some t) ⊎ (o ≢ Some t)
 begun_or_not None t = inr (λ e. none-some t e)
 begun_or_not (Some u) t = elim (cases_eq u t) [ | inl e ↦ inl (ap Some e) | inr ne ↦ inr (λ e. ne (same_Some u t e)) ]
+
+-- a thread that lives in its slot is the only one there
+pub has_none : (h : HallData Block) (g : Guest) (t : ℕ) → thread_in (machine h) g.slot ≡ Some t → g.thread ≢ Some t → HasNone h g
+has_none h g t lives other = λ u there is. other (is ∙ sym there ∙ lives)
 
 module _ (h : HallData Block) (g : Guest) (t : ℕ) (r : IsReady h g) (going : (machine h).ending ≡ None) (lives : thread_in (machine h) g.slot ≡ Some t) where
   pub its_slot : slot_of t ≡ g.slot
@@ -50,7 +62,7 @@ module _ (h : HallData Block) (g : Guest) (t : ℕ) (r : IsReady h g) (going : (
   unfolding gated_steps
   its_stand = elim (begun_or_not g.thread t) [
     | inl is ↦ let s = r.stands.begun t going lives is in (s.0, subst (λ u. IsAhead h.case (both h) u g.own.k s.0) its_slot s.1.along.with.ahead)
-    | inr ne ↦ (stand_at (both h) g.slot, ap (λ k. gated_steps h.case.image (both h).gate.grown k (stand_at (both h) g.slot)) (r.stands.new t going lives ne).told)
+    | inr ne ↦ (stand_at (both h) g.slot, ap (λ k. gated_steps h.case.image (both h).gate.grown k (stand_at (both h) g.slot)) (r.stands.told going (has_none h g t lives ne)))
   ]
 
 -- ---- a turn of a guest that was begun just now
@@ -63,7 +75,7 @@ turned_before Ran h new t r own mid after table d k ages q = record { case = q.c
 turned_before Waiting h new t r own mid after table d k ages q = record { case = q.case; turn = turn_before h t r own mid d _ k ages q.turn; going = q.going; told = q.told; ready = q.ready; none = q.none; marked = q.marked; marks = q.marks }
 turned_before Ended h new t r own mid after table d k ages q = record { case = q.case; turn = turn_before h t r own mid d _ k ages q.turn; ended = q.ended; marks = q.marks }
 turned_before Idle h new t r own mid after table d k ages q = q
-turned_before (Memory e) h new t r own mid after table d k ages q = record { case = q.case; stand = q.stand; along = q.along; fresh = q.fresh; begins = λ x turns. q.begins x (turn_before h t r mid own d x (sym k) (sym ages) turns); marks = q.marks }
+turned_before (Memory e) h new t r own mid after table d k ages q = record { case = q.case; stand = q.stand; along = q.along; fresh = q.fresh; adds = q.adds; begins = λ x turns. q.begins x (turn_before h t r mid own d x (sym k) (sym ages) turns); marks = q.marks }
 
 pub same_stand : (c : CaseData) (b : Both) (s u k n : ℕ) (d e : Stand) → s ≡ u → k ≡ n → IsAhead c b s k d → IsAhead c b u n e → d ≡ e
 same_stand c b s u k n d e slot same p q = same_Some d e (sym p ∙ ap (λ z. gated_steps c.image b.gate.grown k (stand_at b z)) slot ∙ ap (λ z. gated_steps c.image b.gate.grown z (stand_at b u)) same ∙ q)
@@ -73,6 +85,42 @@ same_stand c b s u k n d e slot same p q = same_Some d e (sym p ∙ ap (λ z. ga
 none_is : (o : Option RunEnd) → IsSome o → o ≡ None → ⊥
 none_is None s e = let no : false ≡ true = s in cc
 none_is (Some x) s e = none-some x (sym e)
+
+turn_lives : (h : HallData Block) (t : ℕ) (r : Rules) (own : Own) (d : Stand) (x : Turn) → Leads h.case (begin h.case) h.journal (both h) → is_live (machine h) t ≡ true → IsTurn h t r own d x → LivesOrNone x.both t
+turn_lives h t r own d x leads live q =
+    let right = are_reaches h.case.image in
+    let w = turn_leads h.case (reach_of h.case.image) (serial_rules r) t (point_at own.k d) (turn_in h own.ages) x right leads (q (reach_of h.case.image) right) in
+    own_lives h.case (both h) x.both t w.0 (whole_from h.case (both h) h.journal leads) w.3 w.2 (inl live)
+
+live_born : (life : Life) → is_running life ≡ true → is_unborn life ≡ false
+live_born Unborn h = absurd (let no : false ≡ true = h in cc)
+live_born (Live start argument) h = refl
+live_born (HasEnded value) h = absurd (let no : false ≡ true = h in cc)
+live_born Joined h = absurd (let no : false ≡ true = h in cc)
+
+is_unborn_life : (life : Life) → is_unborn life ≡ true → life ≡ Unborn
+is_unborn_life Unborn h = refl
+is_unborn_life (Live start argument) h = absurd (let no : false ≡ true = h in cc)
+is_unborn_life (HasEnded value) h = absurd (let no : false ≡ true = h in cc)
+is_unborn_life Joined h = absurd (let no : false ≡ true = h in cc)
+
+by_test : (b : Bool) → (b ≡ true → ⊥) → b ≡ false
+by_test true no = absurd (no refl)
+by_test false no = refl
+
+-- a thread that was born stays so
+pub still_born : (c : CaseData) (before after : List Entry) (b n : Both) (u : ℕ) → Leads c (begin c) before b → Leads c (begin c) (before ++ after) n → is_unborn (life_at b.machine.library u) ≡ false → is_unborn (life_at n.machine.library u) ≡ false
+still_born c before after b n u p q born = by_test (is_unborn (life_at n.machine.library u)) (λ yes.
+    let was = unborn_before c before after b n u p q (is_unborn_life (life_at n.machine.library u) yes) in
+    let no : true ≡ false = sym (ap is_unborn was) ∙ born in cc)
+
+turn_born : (h : HallData Block) (t : ℕ) (r : Rules) (own : Own) (d : Stand) (x : Turn) → Leads h.case (begin h.case) h.journal (both h) → is_live (machine h) t ≡ true → IsTurn h t r own d x → is_unborn (life_at x.both.machine.library t) ≡ false
+turn_born h t r own d x leads live q =
+    let right = are_reaches h.case.image in
+    let turns = q (reach_of h.case.image) right in
+    let w = turn_leads h.case (reach_of h.case.image) (serial_rules r) t (point_at own.k d) (turn_in h own.ages) x right leads turns in
+    let all = turn_gated h.case (reach_of h.case.image) (serial_rules r) t (point_at own.k d) (turn_in h own.ages) x right leads turns in
+    still_born h.case h.journal w.0 (both h) x.both t leads (subst (λ j. Leads h.case (begin h.case) j x.both) w.1 all) (live_born (life_at (machine h).library t) live)
 
 -- where the thread doesn't live any more, none lives in its slot
 abbrev pub LeavesNone : HallData Block → ℕ → Type 0
@@ -87,31 +135,47 @@ module _ (new : HallData Block) (t : ℕ) (g : Guest) (slot : slot_of t ≡ g.sl
   it_is true e none u lives = begun ∙ sym (lives_there (machine new) t e) ∙ ap (thread_in (machine new)) slot ∙ lives
   it_is false e none u lives = absurd (none-some u (sym (none e) ∙ ap (thread_in (machine new)) slot ∙ lives))
 
-  none_new : LeavesNone new t → (u : ℕ) → thread_in (machine new) g.slot ≡ Some u → g.thread ≢ Some u → IsBefore new g
+  none_new : LeavesNone new t → (u : ℕ) → thread_in (machine new) g.slot ≡ Some u → g.thread ≢ Some u → IsNewborn new g.slot
   none_new none u lives other = absurd (other (it_is (is_live (machine new) t) refl none u lives))
 
   live_none : is_live (machine new) t ≡ true → LeavesNone new t
   live_none live dead = absurd (let no : true ≡ false = sym live ∙ dead in cc)
 
-  pub standing : (d : Stand) → StandsWith new t g d → IsStanding new g
+  -- a thread that lives is the guest's
+  has_one : is_live (machine new) t ≡ true → HasNone new g → ⊥
+  has_one live alone = alone t (ap (thread_in (machine new)) (sym slot) ∙ lives_there (machine new) t live) begun
+
+  was_born : is_unborn (life_at (machine new).library t) ≡ false → (u : ℕ) → g.thread ≡ Some u → is_unborn (life_at (machine new).library u) ≡ false
+  was_born born u is = subst (λ z. is_unborn (life_at (machine new).library z) ≡ false) (same_thread u is) born
+
+  standing : (d : Stand) → StandsWith new t g d → IsStanding new g
   standing d s = record {
     low = low;
     begun = λ u going lives is. subst (λ z. (e : Stand) × StandsWith new z g e) (same_thread u is) (d, s);
     new = λ u going lives other. none_new (live_none s.along.going.live) u lives other;
+    told = λ going alone. absurd (has_one s.along.going.live alone);
+    none = λ going alone. absurd (has_one s.along.going.live alone);
+    born = λ u going is. was_born (live_born (life_at (machine new).library t) s.along.going.live) u is;
   }
 
-  pub ready_on : (d : Stand) → Ready new t g.own g.table.items d → IsReady new g
+  ready_on : (d : Stand) → Ready new t g.own g.table.items d → IsReady new g
   ready_on d r = record {
     stands = standing d (record { along = r.along; fresh = r.fresh });
     grown = λ u going lives. subst (HasGrown new.case.image (both new)) slot r.grown;
   }
 
-  gone_ready : is_live (machine new) t ≡ false → thread_in (machine new) (slot_of t) ≡ None → IsReady new g
-  gone_ready dead none =
-    let P : ℕ → Type 0 = λ u. thread_in (machine new) g.slot ≡ Some u in
-    let no : (u : ℕ) → P u → ⊥ = λ u lives. none-some u (sym none ∙ ap (thread_in (machine new)) slot ∙ lives) in
+  gone_ready : thread_in (machine new) (slot_of t) ≡ None → is_unborn (life_at (machine new).library t) ≡ false → g.own.k ≡ 0 → g.own.ages ≡ [] → IsReady new g
+  gone_ready none born told ages =
+    let no : (u : ℕ) → thread_in (machine new) g.slot ≡ Some u → ⊥ = λ u lives. none-some u (sym none ∙ ap (thread_in (machine new)) slot ∙ lives) in
     record {
-      stands = record { low = low; begun = λ u going lives is. absurd (no u lives); new = λ u going lives other. absurd (no u lives) };
+      stands = record {
+        low = low;
+        begun = λ u going lives is. absurd (no u lives);
+        new = λ u going lives other. absurd (no u lives);
+        told = λ going alone. told;
+        none = λ going alone. ages;
+        born = λ u going is. was_born born u is;
+      };
       grown = λ u going lives. absurd (no u lives);
     }
 
@@ -119,22 +183,44 @@ module _ (new : HallData Block) (t : ℕ) (g : Guest) (slot : slot_of t ≡ g.sl
   ended_ready ended =
     let no : (machine new).ending ≡ None → ⊥ = λ going. none_is (machine new).ending ended going in
     record {
-      stands = record { low = low; begun = λ u going lives is. absurd (no going); new = λ u going lives other. absurd (no going) };
+      stands = record {
+        low = low;
+        begun = λ u going lives is. absurd (no going);
+        new = λ u going lives other. absurd (no going);
+        told = λ going alone. absurd (no going);
+        none = λ going alone. absurd (no going);
+        born = λ u going is. absurd (no going);
+      };
       grown = λ u going lives. absurd (no going);
     }
 
-  ran_ready : (live : Bool) → is_live (machine new) t ≡ live → ((is_live (machine new) t ≡ true) → Ready new t g.own g.table.items (stand_at (both new) (slot_of t))) → LeavesNone new t → IsReady new g
-  ran_ready true e on none = ready_on (stand_at (both new) (slot_of t)) (on e)
-  ran_ready false e on none = gone_ready e (none e)
+  ran_ready : (live : Bool) → is_live (machine new) t ≡ live → ((is_live (machine new) t ≡ true) → Ready new t g.own g.table.items (stand_at (both new) (slot_of t))) → LivesOrNone (both new) t → is_unborn (life_at (machine new).library t) ≡ false → g.own.k ≡ 0 → (is_live (machine new) t ≡ false → g.own.ages ≡ []) → IsReady new g
+  ran_ready true e on one born told gone = ready_on (stand_at (both new) (slot_of t)) (on e)
+  ran_ready false e on one born told gone = gone_ready (none_left (both new) t one e) born told (gone e)
 
-  pub left : (a : Turned) (h : HallData Block) (r : Rules) (own : Own) (d : Stand) → TurnIs a h new t r own g.own g.table.items d → LeavesNone new t → IsLeft a new g
-  left Ran h r own d q none = ran_ready (is_live (machine new) t) refl q.ready none
-  left Waiting h r own d q none = ready_on (stand_at (both new) (slot_of t)) q.ready
-  left Ended h r own d q none = ended_ready q.ended
-  left Idle h r own d q none = absurd q
-  left (Memory e) h r own d q none = standing q.stand (record { along = q.along; fresh = q.fresh })
+  pub left : (a : Turned) (h : HallData Block) (r : Rules) (own : Own) (d : Stand) → Leads h.case (begin h.case) h.journal (both h) → is_live (machine h) t ≡ true → TurnIs a h new t r own g.own g.table.items d → IsLeft a new g
+  left Ran h r own d leads live q =
+    let x = turn_in new g.own.ages in
+    ran_ready (is_live (machine new) t) refl q.ready (turn_lives h t r own d x leads live q.turn) (turn_born h t r own d x leads live q.turn) q.told q.gone
+  left Waiting h r own d leads live q = ready_on (stand_at (both new) (slot_of t)) q.ready
+  left Ended h r own d leads live q = ended_ready q.ended
+  left Idle h r own d leads live q = absurd q
+  left (Memory e) h r own d leads live q = standing q.stand (record { along = q.along; fresh = q.fresh })
 
 -- ---- what a turn says by itself
+
+adds_by : (h new : HallData Block) (t : ℕ) (r : Rules) (own : Own) (d : Stand) (x : Turn) → Leads h.case (begin h.case) h.journal (both h) → IsTurn h t r own d x → x.journal ≡ new.journal → Adds t h.journal new.journal
+adds_by h new t r own d x leads q is =
+    let right = are_reaches h.case.image in
+    let w = turn_leads h.case (reach_of h.case.image) (serial_rules r) t (point_at own.k d) (turn_in h own.ages) x right leads (q (reach_of h.case.image) right) in
+    record { entries = w.0; journal = sym is ∙ w.1; own = w.2 }
+
+pub adds_after : (a : Turned) (h new : HallData Block) (t : ℕ) (r : Rules) (own after : Own) (table : Table) (d : Stand) → Leads h.case (begin h.case) h.journal (both h) → TurnIs a h new t r own after table d → Adds t h.journal new.journal
+adds_after Ran h new t r own after table d leads q = adds_by h new t r own d (turn_in new after.ages) leads q.turn refl
+adds_after Waiting h new t r own after table d leads q = adds_by h new t r own d (waiting_of (both new) new.journal after.ages) leads q.turn refl
+adds_after Ended h new t r own after table d leads q = adds_by h new t r own d (turn_in new after.ages) leads q.turn refl
+adds_after Idle h new t r own after table d leads q = absurd q
+adds_after (Memory e) h new t r own after table d leads q = q.adds
 
 pub case_after : (a : Turned) (h new : HallData Block) (t : ℕ) (r : Rules) (own after : Own) (table : Table) (d : Stand) → TurnIs a h new t r own after table d → new.case ≡ h.case
 case_after Ran h new t r own after table d q = q.case

@@ -6,7 +6,7 @@ use Rattle.std.proofs.lemmas.Bool.{eqb-false, eqb-true, leb-true, leb-false}
 use Rattle.machine_model.specs.CaseData.{CaseData}
 use Rattle.machine_model.specs.Gated.{Both, Stand}
 use Rattle.lib_table.specs.declared.ask.Asked.{Asked}
-use Rattle.guest_parts.proofs.Calls.{asks_with}
+use Rattle.guest_parts.proofs.CallEntries.{asks_with}
 use Rattle.guest_parts.proofs.Turns.{not_missing}
 use Rattle.thread_step.specs.declared.own.Own.{Own}
 use Rattle.thread_step.specs.declared.own.Position.{Position}

@@ -10,11 +10,11 @@ use Rattle.machine_model.specs.CaseData.{CaseData}
 use Rattle.machine_model.specs.Gated.{Both, Stand, gated_steps, stand_at}
 use Rattle.machine_model.specs.Own.{IsAhead}
 use Rattle.machine_model.specs.Ready.{HasGrown}
-use Rattle.machine_model.specs.Serial.{AreReaches, Point, Reaches, Turn, aged, flush_old, is_over, point_of, settle, settled, turn, turn_from}
+use Rattle.machine_model.specs.Serial.{AreReaches, Point, Reaches, Rule, Turn, aged, flush_old, is_over, point_of, settle, settled, turn, turn_from}
 use Rattle.machine_model.specs.State.{is_live}
 use Rattle.hall_core.specs.Hall.{HallData, both, mark_at}
 use Rattle.guest_parts.specs.Guest.{GuestData}
-use Rattle.guest_parts.specs.Points.{ComesOut, GoesOnAs, point_at, waiting_of}
+use Rattle.guest_parts.specs.Points.{Acts, ComesOut, GoesOnAs, point_at, waiting_of}
 use Rattle.guest_parts.proofs.Turns.{goes_then, out_then, turn_comes_out, turn_goes_on, turn_spent}
 use Rattle.thread_step.specs.declared.own.Own.{Own}
 use Rattle.thread_step.specs.declared.rules.Rules.{Rules}
@@ -23,6 +23,10 @@ use Rattle.thread_step.specs.Entered.{AlongIn, OthersKeepMarks, SettledBy, Table
 use Rattle.thread_step.specs.Kept.{AreKept}
 use Rattle.thread_step.specs.Own.{Along, data_of}
 use Rattle.thread_step.specs.Turned.{Broke, BrokenTurn, EndedTurn, IsTurn, OneEntry, RanTurn, Ready, Stayed, WaitedTurn, Went}
+use Rattle.machine_model.proofs.Reaches.{are_reaches, reach_of}
+use Rattle.machine_laws.proofs.Turns.{act_on, here}
+use Rattle.thread_step.specs.Steps.{Adds}
+use Rattle.thread_step.proofs.Adding.{adds_none, adds_then}
 use Rattle.thread_step.proofs.Begins.{Begins, begins_then, settle_begins, turn_from_begins}
 
 -- after i entries of its budget a turn goes on from e
@@ -31,6 +35,7 @@ pub record OnTheWay (h now : HallData Block) (t : ℕ) (r : Rules) (own mid : Ow
   pub ready : Ready now t mid table e
   pub on : GoesOnAs h.case t r.turn (point_at own.k d) (turn_in h own.ages) (r.turn - i) (point_at mid.k e) (turn_in now mid.ages)
   pub told : 0 < i → (mid.k ≡ 0) × (e ≡ stand_at (both now) (slot_of t))
+  pub adds : Adds t h.journal now.journal
   pub marks : OthersKeepMarks h now t
 
 pub begins_way : (h : HallData Block) (t : ℕ) (r : Rules) (own : Own) (table : Table) (d : Stand) → Ready h t own table d → OnTheWay h h t r own own table d 0 d
@@ -39,8 +44,16 @@ begins_way h t r own table d ready = record {
   ready = ready;
   on = let n : r.turn ≡ r.turn - 0 = omega arith in subst (λ k. GoesOnAs h.case t r.turn (point_at own.k d) (turn_in h own.ages) k (point_at own.k d) (turn_in h own.ages)) n (λ reach right. refl);
   told = λ lt. absurd (omega (arith, lt));
+  adds = adds_none t h.journal;
   marks = λ s ne. refl;
 }
+
+-- what is done at a point is done by entries of the thread
+entry_adds : (now new : HallData Block) (t : ℕ) (q : Point) (ages : List ℕ) (x : Turn) (r : Rule) → Acts now.case t q (turn_in now ages) r x → x.journal ≡ new.journal → Adds t now.journal new.journal
+entry_adds now new t q ages x r acts is =
+    let s = turn_in now ages in
+    let w = act_on now.case t (both now) now.journal (reach_of now.case.image) q s x r (here now.case t (both now) now.journal s refl refl) (acts (reach_of now.case.image) (are_reaches now.case.image)) in
+    record { entries = w.entries; journal = sym is ∙ w.journal; own = w.own }
 
 -- ---- the end of a turn
 
@@ -102,6 +115,7 @@ module _ (h now : HallData Block) (t : ℕ) (r : Rules) (own mid : Own) (table :
         ready = q.on going live;
         on = subst (λ k. GoesOnAs h.case t r.turn (point_at own.k d) start (r.turn - (i + 1)) (point_at k (stand_at (both new) (slot_of t))) (turn_in new after.ages)) (sym one.told) g;
         told = λ lt. (one.told, refl);
+        adds = adds_then t h.journal now.journal new.journal w.adds (entry_adds now new t (point_at one.k one.stop) mid.ages (turn_in new after.ages) one.rule one.acts refl);
         marks = marks_are new after left (turn_in new after.ages) one;
       }
 
@@ -153,6 +167,7 @@ module _ (h now : HallData Block) (t : ℕ) (r : Rules) (own mid : Own) (table :
     fresh = q.fresh;
     begins = λ x is reach right. option_and_then_some (settle h.case t r.hold) (turn_from h.case reach t r.turn (point_at own.k d) start) x (is reach right) (λ y a b.
       begins_then new.journal y.journal x.journal (q.begins reach (subst (λ (c : CaseData). AreReaches c.image reach) (sym w.case) right) (r.turn - (i + 1)) y (subst (λ c. turn_from c reach t (suc (r.turn - (i + 1))) (point_at mid.k e) (turn_in now mid.ages) ≡ Some y) (sym w.case) (sym (on_now reach right) ∙ a))) (settle_begins h.case t r.hold y x b));
+    adds = adds_then t h.journal now.journal new.journal w.adds q.adds;
     marks = λ s ne. q.marks s ne ∙ w.marks s ne;
   }
 
@@ -188,6 +203,7 @@ module _ (h now : HallData Block) (t : ℕ) (r : Rules) (own mid : Own) (table :
     fresh = w.ready.fresh;
     begins = λ x turns reach right. option_and_then_some (settle h.case t r.hold) (turn_from h.case reach t r.turn (point_at own.k d) first) x (turns reach right) (λ y a b.
       subst (λ (z : HallData Block). Begins z.journal x.journal) (sym is) (begins_then now.journal y.journal x.journal (turn_from_begins h.case reach t (r.turn - i) (point_at mid.k e) (turn_in now mid.ages) y (sym (w.on reach right) ∙ a)) (settle_begins h.case t r.hold y x b)));
+    adds = subst (λ (z : HallData Block). Adds t h.journal z.journal) (sym is) w.adds;
     marks = λ s ne. ap (λ (z : HallData Block). mark_at z s) is ∙ w.marks s ne;
   }
 

@@ -1,5 +1,5 @@
 -- What an entry leaves of a thread's turn and its guest.
-use Rattle.std.specs.Prelude.{◌≡◌, ◌≢◌, ℕ, Bool, true, false, List, [], ◌++◌, Option, Some, None, IsSome, Result, Ok, Err, slice_index}
+use Rattle.std.specs.Prelude.{◌≡◌, ◌≢◌, ◌⊎◌, ℕ, Bool, true, false, List, [], ◌++◌, Option, Some, None, IsSome, Result, Ok, Err, slice_index}
 use Rattle.std.specs.declared.alloc.AllocError.{AllocError}
 use Rattle.address_space.specs.Slots.{slot_of}
 use Rattle.elf_image.specs.Layout.{ImageData}
@@ -26,6 +26,7 @@ use Rattle.thread_step.specs.declared.own.Position.TheVariants.{Inside}
 use Rattle.thread_step.specs.Ages.{AreAges}
 use Rattle.thread_step.specs.Kept.{AreKept, IsKept, KeptData}
 use Rattle.thread_step.specs.Own.{Along, IsUnder, position_of}
+use Rattle.thread_step.specs.Steps.{AddsFree, AddsMiss}
 use Rattle.thread_step.specs.Stretched.{AsksAt, HasRoom}
 
 abbrev pub Table : Type 0
@@ -71,6 +72,11 @@ pub record Waited (old new : HallData Block) (t : ℕ) (before after : Own) (tab
   pub marked : IsSome (mark_at new (slot_of t))
   pub marks : OthersKeepMarks old new t
 
+-- The entries so far made no step, and the guest is as far past its last one that does; or a miss is among them, which told
+-- the private steps.
+abbrev pub TellsPartly : ℕ → List Entry → List Entry → ℕ → ℕ → Type 0
+TellsPartly t old new before after = (AddsFree t old new × (after ≡ before)) ⊎ (AddsMiss t before old new × (after ≡ 0))
+
 -- Memory was wanting: the guest stands with its thread somewhere, and what was done so far is how the turn's entries at its
 -- point begin.
 pub record Partly (old new : HallData Block) (t : ℕ) (before after : Own) (table : Table) (d : Stand) (r : Rule) : Type 0 where
@@ -79,6 +85,7 @@ pub record Partly (old new : HallData Block) (t : ℕ) (before after : Own) (tab
   pub along : AlongIn new t after table stand
   pub fresh : AreAges 255 before.ages → AreAges 255 after.ages
   pub begins : (reach : Reaches) → AreReaches old.case.image reach → (x : Turn) → act old.case reach t (point_at before.k d) (turn_in old before.ages) r ≡ Some x → (rest : List Entry) × (x.journal ≡ new.journal ++ rest)
+  pub tells : TellsPartly t old.journal new.journal before.k after.k
   pub marks : OthersKeepMarks old new t
 
 -- what asking the library comes to: true where the thread has to wait

@@ -52,6 +52,7 @@ pub record Grew (old new : HallData Block) (t a : ℕ) (g : GuestData) (d : Stan
   pub case : new.case ≡ old.case
   pub growth : InGrowth new t a g d
   pub within : Within (grown old) (grown new)
+  pub free : AddsFree t old.journal new.journal
   pub marks : OthersKeepMarks old new t
 
 -- what was done is all that a turn does so, or, where memory was wanting, how that begins

@@ -1,7 +1,7 @@
 -- The guest of a slot's thread, and what it is for it to be ready for a turn.
-use Rattle.std.specs.Prelude.{◌≡◌, ◌≢◌, ◌<◌, ℕ, List, [], Option, Some, None}
+use Rattle.std.specs.Prelude.{◌≡◌, ◌≢◌, ◌<◌, ℕ, false, List, [], Option, Some, None}
 use Rattle.ir_syntax.specs.declared.block.Block.{Block}
-use Rattle.lib_table.specs.Library.{birth}
+use Rattle.lib_table.specs.Library.{birth, is_unborn, life_at}
 use Rattle.lib_table.specs.declared.slot.Birth.{Birth}
 use Rattle.machine_model.specs.CaseData.{CaseData}
 use Rattle.machine_model.specs.Gated.{Stand, no_spot, spot_at}
@@ -41,18 +41,19 @@ pub record StandsWith (h : HallData Block) (t : ℕ) (g : Guest) (d : Stand) : T
   pub along : AlongIn h t g.own g.table.items d
   pub fresh : AreAges 255 g.own.ages
 
--- a guest that hasn't begun its thread: the thread made no entry, and the guest has no private steps and no ages
-pub record IsBefore (h : HallData Block) (g : Guest) : Type 0 where
-  pub thread : IsNewborn h g.slot
-  pub told : g.own.k ≡ 0
-  pub none : g.own.ages ≡ []
+-- no thread that the guest has begun lives in its slot
+abbrev pub HasNone : HallData Block → Guest → Type 0
+HasNone h g = (t : ℕ) → thread_in (machine h) g.slot ≡ Some t → g.thread ≢ Some t
 
--- Where the run goes on and a thread lives in the guest's slot, the guest has begun it and stands with it, or the thread made
--- no entry yet.
+-- While the run goes on: a thread that lives in the guest's slot was begun by the guest, which stands with it, or made no entry
+-- yet. A guest that has none has no private steps and no ages, and a thread that was begun was born.
 pub record IsStanding (h : HallData Block) (g : Guest) : Type 0 where
   pub low : g.slot < 64
   pub begun : (t : ℕ) → (machine h).ending ≡ None → thread_in (machine h) g.slot ≡ Some t → g.thread ≡ Some t → (d : Stand) × StandsWith h t g d
-  pub new : (t : ℕ) → (machine h).ending ≡ None → thread_in (machine h) g.slot ≡ Some t → g.thread ≢ Some t → IsBefore h g
+  pub new : (t : ℕ) → (machine h).ending ≡ None → thread_in (machine h) g.slot ≡ Some t → g.thread ≢ Some t → IsNewborn h g.slot
+  pub told : (machine h).ending ≡ None → HasNone h g → g.own.k ≡ 0
+  pub none : (machine h).ending ≡ None → HasNone h g → g.own.ages ≡ []
+  pub born : (t : ℕ) → (machine h).ending ≡ None → g.thread ≡ Some t → is_unborn (life_at (machine h).library t) ≡ false
 
 -- the thread doesn't stand, right after a miss, at a place that isn't grown
 pub record IsReady (h : HallData Block) (g : Guest) : Type 0 where

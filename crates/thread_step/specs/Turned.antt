@@ -22,6 +22,7 @@ use Rattle.thread_step.specs.declared.stretch.Came.{Came}
 use Rattle.thread_step.specs.declared.stretch.Came.TheVariants as came
 use Rattle.thread_step.specs.Ages.{AreAges}
 use Rattle.thread_step.specs.Entered.{AlongIn, Asking, Entered, OthersKeepMarks, Partly, Table, Waited, turn_in}
+use Rattle.thread_step.specs.Steps.{Adds}
 use Rattle.thread_step.specs.Stretched.{StopsAt}
 
 -- ---- one entry
@@ -84,6 +85,7 @@ pub record Broke (old new : HallData Block) (t : ℕ) (before after : Own) (tabl
   pub along : AlongIn new t after table stand
   pub fresh : AreAges 255 after.ages
   pub begins : (reach : Reaches) → AreReaches old.case.image reach → (left : ℕ) (x : Turn) → turn_from old.case reach t (suc left) (point_at before.k d) (turn_in old before.ages) ≡ Some x → (rest : List Entry) × (x.journal ≡ new.journal ++ rest)
+  pub adds : Adds t old.journal new.journal
   pub marks : OthersKeepMarks old new t
 
 abbrev pub EntryIs : Result Bool AllocError → HallData Block → HallData Block → ℕ → Own → Own → Table → Stand → Type 0
@@ -142,6 +144,7 @@ pub record BrokenTurn (old new : HallData Block) (t : ℕ) (r : Rules) (before a
   pub along : AlongIn new t after table stand
   pub fresh : AreAges 255 after.ages
   pub begins : (x : Turn) → IsTurn old t r before d x → (reach : Reaches) → AreReaches old.case.image reach → (rest : List Entry) × (x.journal ≡ new.journal ++ rest)
+  pub adds : Adds t old.journal new.journal
   pub marks : OthersKeepMarks old new t
 
 abbrev pub TurnIs : Turned → HallData Block → HallData Block → ℕ → Rules → Own → Own → Table → Stand → Type 0

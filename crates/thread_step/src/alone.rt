@@ -1,14 +1,17 @@
 //! A turn of the thread that lives in a guest's slot, made by the one that has the shared state for itself.
 
-ghost use Rattle.std.specs.Prelude.{◌≡◌, ◌≢◌, ◌<◌, ℕ, None, Some, IsSome};
+ghost use Rattle.std.specs.Prelude.{◌≡◌, ◌≢◌, ◌+◌, ◌-◌, ℕ, None, Some, IsSome};
 ghost use Rattle.machine_model.specs.Gated.{Stand};
 ghost use Rattle.machine_model.specs.Own.{IsAhead};
 ghost use Rattle.machine_model.specs.Serial.{AreReaches, Reaches, Run};
 ghost use Rattle.machine_model.specs.State.{thread_in};
 ghost use Rattle.hall_core.specs.Hall.{both, machine, mark_at};
+ghost use Rattle.guest_parts.specs.Running.{Rises};
+ghost use Rattle.thread_step.specs.declared.guest.Guest.{Guest as GuestData};
 ghost use Rattle.thread_step.specs.declared.rules.Turned.TheVariants as turned;
 ghost use Rattle.thread_step.specs.Alone.{InRun, IsAt, TakesTurn};
 ghost use Rattle.thread_step.specs.Guest.{IsLeft, IsReady, guest_slot, private_steps};
+ghost use Rattle.thread_step.specs.Steps.{instruction_steps};
 ghost use Rattle.thread_step.specs.Turned.{AreRules};
 
 use crate::guest::Guest;
@@ -34,9 +37,12 @@ fn turn_of<L: Lifter, N: Engine>(
     ensures slot { guest.new.slot ≡ guest.old.slot }
     ensures turn { (d : Stand) → IsAhead hall.old.case (both hall.old) guest.old.slot guest.old.own.k d → TakesTurn result hall.old hall.new t rules guest.old guest.new d }
     ensures ready { IsLeft result hall.new guest.new }
+    ensures others { (g : GuestData) → guest_slot g ≢ guest_slot guest.old → IsReady hall.old g → IsReady hall.new g }
+    ensures count { Rises (N.count engine.old) (N.count engine.new) ((instruction_steps hall.old.case hall.new.journal + guest.new.own.k) - (instruction_steps hall.old.case hall.old.journal + guest.old.own.k)) }
 {
+    hall.facts();
     guest.enter(hall, t);
-    turn(
+    let turned = turn(
         guest.alloc,
         &mut guest.own,
         &mut guest.table,
@@ -45,7 +51,9 @@ fn turn_of<L: Lifter, N: Engine>(
         lifter,
         engine,
         rules,
-    )
+    );
+    hall.facts();
+    turned
 }
 
 /// The turn of the thread that lives in the guest's slot: `Ended` at once where the run has an ending, `Idle` where no thread
@@ -66,8 +74,10 @@ pub fn turn_alone<L: Lifter, N: Engine>(
     ensures turn { (t : ℕ) (d : Stand) → (machine hall.old).ending ≡ None → thread_in (machine hall.old) (guest_slot guest.old) ≡ Some t → IsAhead hall.old.case (both hall.old) (guest_slot guest.old) (private_steps guest.old) d → TakesTurn result hall.old hall.new t rules guest.old guest.new d }
     ensures serial { (reach : Reaches) (run : Run) → AreReaches hall.old.case.image reach → IsAt run hall.old guest.old → private_steps guest.old ≡ 0 → InRun result reach rules run hall.old hall.new guest.old guest.new }
     ensures ready { IsLeft result hall.new guest.new }
+    ensures others { (g : GuestData) → guest_slot g ≢ guest_slot guest.old → IsReady hall.old g → IsReady hall.new g }
     ensures told { (result ≡ turned.Ran → private_steps guest.new ≡ 0) × (result ≡ turned.Waiting → private_steps guest.new ≡ 0) }
     ensures marked { result ≡ turned.Waiting → IsSome (mark_at hall.new (guest_slot guest.old)) }
+    ensures count { Rises (N.count engine.old) (N.count engine.new) ((instruction_steps hall.old.case hall.new.journal + private_steps guest.new) - (instruction_steps hall.old.case hall.old.journal + private_steps guest.old)) }
     ensures marks { (s : ℕ) → s ≢ guest_slot guest.old → mark_at hall.new s ≡ mark_at hall.old s }
 {
     if has_ended(hall) {

@@ -1,6 +1,6 @@
 //! A thread's turn.
 
-ghost use Rattle.std.specs.Prelude.{◌≡◌, ◌+◌, ◌<◌, ◌≤◌, OnOk, is_some, length};
+ghost use Rattle.std.specs.Prelude.{◌≡◌, ◌+◌, ◌-◌, ◌<◌, ◌≤◌, OnOk, is_some, length};
 ghost use Rattle.address_space.specs.Slots.{slot_of};
 ghost use Rattle.guest_state.specs.declared.virtual_state.Virtual.{Virtual};
 ghost use Rattle.machine_model.specs.Gated.{Stand};
@@ -10,6 +10,7 @@ ghost use Rattle.hall_core.specs.Hall.{both, machine};
 ghost use Rattle.guest_parts.specs.Running.{Rises};
 ghost use Rattle.thread_step.specs.Ages.{AreAges};
 ghost use Rattle.thread_step.specs.Entered.{AlongIn, Asking, Entered};
+ghost use Rattle.thread_step.specs.Steps.{instruction_steps};
 ghost use Rattle.thread_step.specs.Turned.{ActIs, AreRules, EntryIs, Ready, StopsIn, TurnIs, rule_of};
 
 use crate::access::{end, fail, fence, load, locked, store};
@@ -106,7 +107,8 @@ fn entry<L: Lifter, N: Engine>(
     engine: &mut N,
 ) -> Result<bool, AllocError>
     requires { (d : Stand) × Ready hall.old t own.old table.old.items d }
-    ensures { (d : Stand) → Ready hall.old t own.old table.old.items d → EntryIs result hall.old hall.new t own.old own.new table.new.items d }
+    ensures entry { (d : Stand) → Ready hall.old t own.old table.old.items d → EntryIs result hall.old hall.new t own.old own.new table.new.items d }
+    ensures count { Rises (N.count engine.old) (N.count engine.new) ((instruction_steps hall.old.case hall.new.journal + own.new.k) - (instruction_steps hall.old.case hall.old.journal + own.old.k)) }
 {
     make_place(hall)?;
     let came = stretch(alloc, own, table, hall, engine)?;
@@ -134,7 +136,8 @@ pub(crate) fn turn<L: Lifter, N: Engine>(
 ) -> Turned
     requires rules { AreRules hall.old.case rules }
     requires ready { (d : Stand) × Ready hall.old t own.old table.old.items d }
-    ensures { (d : Stand) → Ready hall.old t own.old table.old.items d → TurnIs result hall.old hall.new t rules own.old own.new table.new.items d }
+    ensures turn { (d : Stand) → Ready hall.old t own.old table.old.items d → TurnIs result hall.old hall.new t rules own.old own.new table.new.items d }
+    ensures count { Rises (N.count engine.old) (N.count engine.new) ((instruction_steps hall.old.case hall.new.journal + own.new.k) - (instruction_steps hall.old.case hall.old.journal + own.old.k)) }
 {
     for _i in 0..rules.turn {
         match entry(alloc, own, table, hall, t, lifter, engine) {
