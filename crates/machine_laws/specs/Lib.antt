@@ -1,0 +1,3 @@
+-- What the laws of lives speak of.
+pub mod Lives
+pub mod Others
