@@ -196,7 +196,8 @@ impl<B: Fits> Hall<B> {
 
     /// How many places are grown.
     pub fn count(&self) -> u32
-        ensures { result ≡ length (grown self.now) }
+        ensures count { result ≡ length (grown self.now) }
+        ensures limit { result ≤ 65536 }
     {
         self.book.count()
     }
@@ -231,8 +232,8 @@ impl<B: Fits> Hall<B> {
     }
 
     /// Tells callers what the type keeps: the journal is gated and played, each grown block is right at its place, a marked
-    /// thread stands at the request of its mark, there are 64 cores, slots and lists of waiting writes, and the limit and the
-    /// journal are not long.
+    /// thread stands at the request of its mark, there are 64 cores, slots, marks and lists of waiting writes, and the limit
+    /// and the journal are not long.
     pub fn facts(&self)
         ensures gated { Leads self.now.case (begin self.now.case) self.now.journal (both self.now) }
         ensures played { play self.now.case self.now.journal ≡ Some (machine self.now) }
@@ -240,6 +241,7 @@ impl<B: Fits> Hall<B> {
         ensures grown { (a : ℕ) → is_some (map.get self.now.blocks a) ≡ is_among (grown self.now) a }
         ensures marks { (s : ℕ) (ask : AskData) → mark_at self.now s ≡ Some ask → StandsAt self.now.case.image (machine self.now) s ask }
         ensures sized { IsSized (machine self.now) }
+        ensures marked { length self.now.marks ≡ 64 }
         ensures limit { self.now.case.limit ≤ 2 ^ 27 }
         ensures short { length self.now.journal ≤ 2 * self.now.case.limit + 65537 }
     {

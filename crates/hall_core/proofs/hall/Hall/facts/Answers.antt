@@ -19,3 +19,6 @@ pub returns-clause-short : goal.returns-clause-short
 returns-clause-short g c =
     let is = opened g.B.Fits.fits _ c.args.self.now c.self.inside.shared c.self.view_is c.self.invariant.0 in
     bounded c.args.self.now.case c.args.self.now.journal (both c.args.self.now, is.leads)
+
+pub returns-clause-marked : goal.returns-clause-marked
+returns-clause-marked g c = (opened g.B.Fits.fits _ c.args.self.now c.self.inside.shared c.self.view_is c.self.invariant.0).marked
