@@ -2,11 +2,9 @@
 //! none.
 
 mod gated;
-mod halls;
 mod places;
 mod plays;
 mod programs;
-mod twin;
 
 use guest_asm::{Piece, row_image};
 use journal_pack::Entry::{self, Ev, Flush, Over, Tick};
