@@ -66,7 +66,15 @@ free_adds t before after h = record { entries = h.entries; journal = h.journal; 
 
 pub partly_adds : (t : ℕ) (old new : List Entry) (before after : ℕ) → TellsPartly t old new before after → Adds t old new
 partly_adds t old new before after (inl h) = free_adds t old new h.0
-partly_adds t old new before after (inr h) = adds_then t old (old ++ Miss t before h.0.source h.0.target ∷ []) new (adds_one t old (Miss t before h.0.source h.0.target) refl) (free_adds t (old ++ Miss t before h.0.source h.0.target ∷ []) new h.0.free)
+partly_adds t old new before after (inr h) =
+    let q = h.0 in
+    let e = Miss t before q.source q.target in
+    adds_then t old q.mid new (free_adds t old q.mid q.first) (adds_then t q.mid (q.mid ++ e ∷ []) new (adds_one t q.mid e refl) (free_adds t (q.mid ++ e ∷ []) new q.free))
+
+-- entries without steps before them change nothing
+pub free_first : (t : ℕ) (old mid new : List Entry) (before after : ℕ) → AddsFree t old mid → TellsPartly t mid new before after → TellsPartly t old new before after
+free_first t old mid new before after h (inl q) = inl (free_then t old mid new h q.0, q.1)
+free_first t old mid new before after h (inr q) = inr (record { mid = q.0.mid; first = free_then t old mid q.0.mid h q.0.first; source = q.0.source; target = q.0.target; free = q.0.free }, q.1)
 
 -- ---- writes that go to memory
 

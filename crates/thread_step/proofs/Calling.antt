@@ -59,6 +59,7 @@ use Rattle.thread_step.specs.declared.own.Position.TheVariants.{Between}
 use Rattle.thread_step.specs.declared.stretch.Came.TheVariants as came
 use Rattle.thread_step.specs.Ages.{AreAges}
 use Rattle.thread_step.specs.Called.{FitsAfter, at_after, data_after}
+use Rattle.thread_step.proofs.Adding.{flushes_free, free_first, free_none}
 use Rattle.thread_step.specs.Entered.{AlongIn, CallIs, Entered, FlushedSome, OthersKeepMarks, Partly, Table, Waited, turn_in}
 use Rattle.thread_step.specs.Kept.{AreKept}
 use Rattle.thread_step.specs.Own.{Along, IsUnder, data_of, position_of}
@@ -346,6 +347,7 @@ module _ (h : HallData Block) (t a : ℕ) (what : Asked) (own : Own) (table : Ta
     along = along_same h.case (both h) t own after table d same_data at along;
     fresh = λ y. subst (AreAges 255) (sym (ap (λ (g : GuestData). g.ages) same_data)) y;
     begins = λ reach right x p. act_begins h.case reach t (point_at own.k d) (turn_in h own.ages) x AtEvent p;
+    tells = inl (free_none t h.journal, ap (λ (g : GuestData). g.k) same_data);
     marks = λ s ne. refl;
   })
 
@@ -401,6 +403,7 @@ module _ (h n last : HallData Block) (t a : ℕ) (what : Asked) (own after : Own
     along = q.along;
     fresh = λ y. q.fresh (young y);
     begins = λ reach right x p. q.begins reach (subst (λ (c : CaseData). AreReaches c.image reach) (sym f.case) right) x (subst (λ (c : CaseData). act c reach t (point_at own.k d) (turn_in n ages) AtEvent ≡ Some x) (sym f.case) (sym (act_flushed h.case reach t (length own.ages) (point_at own.k d) (turn_in h own.ages) (turn_in n ages) wanted refl count f.are_flushes left) ∙ p));
+    tells = free_first t h.journal n.journal last.journal own.k after.k (flushes_free h.case t (length own.ages) (turn_in h own.ages) (turn_in n ages) f.are_flushes) q.tells;
     marks = λ s ne. q.marks s ne ∙ f.marks s ne;
   }
 

@@ -81,11 +81,13 @@ free_counts c t before after h = ap (instruction_steps c) h.journal ∙ free_on 
 pub partly_counts : (c : CaseData) (t : ℕ) (old new : List Entry) (before after : ℕ) → TellsPartly t old new before after → instruction_steps c new + after ≤ instruction_steps c old + before
 partly_counts c t old new before after (inl h) = let e = free_counts c t old new h.0 in let k = h.1 in omega (arith, e, k)
 partly_counts c t old new before after (inr h) =
-    let e = Miss t before h.0.source h.0.target in
-    let free = free_counts c t (old ++ e ∷ []) new h.0.free in
-    let one = one_entry c old e in
+    let q = h.0 in
+    let e = Miss t before q.source q.target in
+    let first = free_counts c t old q.mid q.first in
+    let one = one_entry c q.mid e in
+    let free = free_counts c t (q.mid ++ e ∷ []) new q.free in
     let none = h.1 in
-    omega (arith, free, one, none)
+    omega (arith, first, free, one, none)
 
 -- ---- turns
 

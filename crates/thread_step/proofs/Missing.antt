@@ -258,7 +258,7 @@ miss_is (Err e) h mid new t a own table d additive few m q =
           ap (λ (c : CaseData). full_or c reach t a (turn_in mid own.ages) false) m.case
           ∙ sym (missed_acts h.case t d own.k a (turn_in h own.ages) (turn_in mid own.ages) false additive m.made m.rip (other_test (length (grown mid)) most_grown (let n = ap length m.same in omega (arith, n, few))) reach)
           ∙ p);
-      tells = inr (record { source = d.cpu.last; target = d.cpu.rip; free = subst (λ j. AddsFree t j new.journal) (missed_journal h mid t own d m.made) q.0.free }, refl);
+      tells = inr (record { mid = h.journal; first = free_none t h.journal; source = d.cpu.last; target = d.cpu.rip; free = subst (λ j. AddsFree t j new.journal) (missed_journal h mid t own d m.made) q.0.free }, refl);
       marks = λ s ne. q.0.marks s ne ∙ m.marks s ne;
     }
 

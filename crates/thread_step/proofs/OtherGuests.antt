@@ -10,7 +10,7 @@ use Rattle.journal_pack.specs.declared.entry.Entry.{Entry}
 use Rattle.lib_table.specs.declared.life.Life.{Life}
 use Rattle.lib_table.specs.declared.life.Life.TheVariants.{Ended, Joined, Live, Unborn}
 use Rattle.lib_table.specs.declared.slot.Birth.{Birth}
-use Rattle.lib_table.specs.Library.{LibraryData, is_running, is_unborn, life_at}
+use Rattle.lib_table.specs.Library.{LibraryData, birth, is_running, is_unborn, life_at}
 use Rattle.basic_blocks.specs.Places.{is_code_place}
 use Rattle.basic_blocks.specs.Reach.{is_among}
 use Rattle.machine_model.specs.CaseData.{CaseData}
@@ -91,7 +91,7 @@ module _ (h new : HallData Block) (g : Guest) (case : new.case ≡ h.case) (more
 
   new_same : IsNewborn h g.slot → IsNewborn new g.slot
   new_same n = record {
-    core = same.core ∙ n.core ∙ ap (starting_core h.case g.slot) (sym same.birth) ∙ ap (λ c. starting_core c g.slot _) (sym case);
+    core = same.core ∙ n.core ∙ ap (starting_core h.case g.slot) (sym same.birth) ∙ ap (λ c. starting_core c g.slot (birth (machine new).library g.slot)) (sym case);
     writes = same.writes ∙ n.writes;
     spot = same.spot ∙ n.spot;
   }

@@ -1,6 +1,6 @@
 -- The turn of a guest's slot.
 use Rattle.std.proofs.Common.{◌≡◌, ◌≢◌, ℕ, ◌<◌, ◌⊎◌, inl, inr, Bool, true, false, List, [], ◌++◌, length, slice_index_or, slice_set, length-set, Option, Some, None, refl, sym, subst, ap, arith, ◌∙◌}
-use Rattle.std.specs.Prelude.{option_and_then, IsSome}
+use Rattle.std.specs.Prelude.{option_and_then, IsSome, is_some}
 use Rattle.std.proofs.lemmas.Bool.{cases_eq}
 use Rattle.std.proofs.lemmas.List.{get_or-set_other, get_or-set_same}
 use Rattle.std.proofs.lemmas.Option.{none-some, option_and_then_some, same_Some}
@@ -36,6 +36,7 @@ use Rattle.thread_step.specs.Entered.{OthersKeepMarks, Table, turn_in}
 use Rattle.thread_step.specs.Guest.{HasNone, IsLeft, IsNewborn, IsReady, IsStanding, StandsWith}
 use Rattle.thread_step.specs.Steps.{Adds}
 use Rattle.thread_step.specs.Turned.{IsTurn, Ready, TurnIs, serial_rules}
+use Rattle.thread_step.proofs.Whole.{stands_at}
 use Rattle.thread_step.proofs.Lives.{LivesOrNone, lives_there, none_left, own_lives}
 
 -- ---- where a guest stands
@@ -105,8 +106,8 @@ is_unborn_life (HasEnded value) h = absurd (let no : false ≡ true = h in cc)
 is_unborn_life Joined h = absurd (let no : false ≡ true = h in cc)
 
 by_test : (b : Bool) → (b ≡ true → ⊥) → b ≡ false
-by_test true no = absurd (no refl)
-by_test false no = refl
+by_test true wrong = absurd (wrong refl)
+by_test false wrong = refl
 
 -- a thread that was born stays so
 pub still_born : (c : CaseData) (before after : List Entry) (b n : Both) (u : ℕ) → Leads c (begin c) before b → Leads c (begin c) (before ++ after) n → is_unborn (life_at b.machine.library u) ≡ false → is_unborn (life_at n.machine.library u) ≡ false
@@ -307,3 +308,17 @@ ended_turn h r reach run g e at is = stays h r reach run g at (ap (turn_unless h
 pub idle_turn : (h : HallData Block) (r : Rules) (reach : Reaches) (run : Run) (g : Guest) → IsAt run h g → (machine h).ending ≡ None → thread_in (machine h) g.slot ≡ None → IsOneTurn reach r run h h g g
 unfolding one_turn
 idle_turn h r reach run g at going none = stays h r reach run g at (ap (turn_unless h.case reach (serial_rules r) run g.slot) (ap (λ (b : Both). b.machine.ending) at.both ∙ going) ∙ ap (serial.turn_of h.case reach (serial_rules r) run g.slot) (ap (λ (b : Both). thread_in b.machine g.slot) at.both ∙ none))
+
+-- ---- endings
+
+pub some_ending : (o : Option RunEnd) → is_some o ≡ true → (e : RunEnd) × (o ≡ Some e)
+some_ending None s = absurd (let clash : false ≡ true = s in cc)
+some_ending (Some e) s = (e, refl)
+
+pub none_ending : (o : Option RunEnd) → is_some o ≡ false → o ≡ None
+none_ending None s = refl
+none_ending (Some e) s = absurd (let clash : true ≡ false = s in cc)
+
+-- without private steps a guest's thread is where its last entry left it
+pub stands_first : (h : HallData Block) (g : Guest) (t : ℕ) (d : Stand) → slot_of t ≡ g.slot → g.own.k ≡ 0 → IsAhead h.case (both h) g.slot g.own.k d → d ≡ stand_at (both h) (slot_of t)
+stands_first h g t d slot told ahead = stands_at h.case (both h) g.slot g.own.k d told ahead ∙ ap (stand_at (both h)) (sym slot)

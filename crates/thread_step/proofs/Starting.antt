@@ -85,9 +85,9 @@ first_agrees v c slot rsp b e none is low =
       (subst (λ z. Agrees None (record v { regs = regs }) z) (sym core)
         (agrees_with v regs (record thread.start { regs = regs; rip = c.image.entry }) e refl (length-set (replicate 16 0) 4 rsp) (set_below (replicate 16 0) 4 rsp (2 ^ 64) low all_low)))
 
-pub born_agrees : (v : Virtual) (c : CaseData) (slot rsp : ℕ) (o : Option Birth) (b : Birth) → v ≡ virtual.start → o ≡ Some b → rsp ≡ top slot - 8 → rsp < 2 ^ 64 → b.argument < 2 ^ 64 → Agrees None (record v { regs = slice_set (slice_set v.regs 7 b.argument) 4 rsp }) (starting_core c slot o).cpu
+born_with : (v : Virtual) (c : CaseData) (slot rsp : ℕ) (o : Option Birth) (b : Birth) → v ≡ virtual.start → o ≡ Some b → rsp ≡ top slot - 8 → rsp < 2 ^ 64 → b.argument < 2 ^ 64 → Agrees None (record v { regs = slice_set (slice_set v.regs 7 b.argument) 4 rsp }) (starting_core c slot o).cpu
 unfolding virtual.start thread.start
-born_agrees v c slot rsp o b e some is low small =
+born_with v c slot rsp o b e some is low small =
     let one : List ℕ = slice_set (replicate 16 0) 7 b.argument in
     let regs : List ℕ = slice_set one 4 rsp in
     let there : slice_set (slice_set v.regs 7 b.argument) 4 rsp ≡ regs = ap (λ (z : Virtual). slice_set (slice_set z.regs 7 b.argument) 4 rsp) e in
@@ -95,6 +95,9 @@ born_agrees v c slot rsp o b e some is low small =
     subst (λ z. Agrees None (record v { regs = z }) (starting_core c slot o).cpu) (sym there)
       (subst (λ z. Agrees None (record v { regs = regs }) z) (sym core)
         (agrees_with v regs (record thread.start { regs = regs; rip = b.start }) e refl (length-set one 4 rsp ∙ length-set (replicate 16 0) 7 b.argument) (set_below one 4 rsp (2 ^ 64) low (set_below (replicate 16 0) 7 b.argument (2 ^ 64) small all_low))))
+
+pub born_agrees : (v : Virtual) (c : CaseData) (slot rsp argument : ℕ) (o : Option Birth) (b : Birth) → v ≡ virtual.start → o ≡ Some b → rsp ≡ top slot - 8 → rsp < 2 ^ 64 → argument ≡ b.argument → argument < 2 ^ 64 → Agrees None (record v { regs = slice_set (slice_set v.regs 7 argument) 4 rsp }) (starting_core c slot o).cpu
+born_agrees v c slot rsp argument o b e some is low same small = subst (λ z. Agrees None (record v { regs = slice_set (slice_set v.regs 7 z) 4 rsp }) (starting_core c slot o).cpu) (sym same) (born_with v c slot rsp o b e some is low (omega (arith, same, small)))
 
 -- ---- the guest of a new thread
 

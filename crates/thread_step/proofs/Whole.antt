@@ -179,7 +179,7 @@ unheld now new spare t hold g ages e s = record { case = s.case; going = s.going
 from_held : (now held : HallData Block) (spare : ℕ) (new : HallData Block) (t hold : ℕ) (g : GuestData) (ages : List ℕ) (e : Stand) → held ≡ record now { spare = spare } → SettledBy held new t hold g ages e → SettledBy now new t hold g ages e
 from_held now held spare new t hold g ages e is s = unheld now new spare t hold g ages e (subst (λ z. SettledBy z new t hold g ages e) is s)
 
-stands_at : (c : CaseData) (b : Both) (slot k : ℕ) (e : Stand) → k ≡ 0 → IsAhead c b slot k e → e ≡ stand_at b slot
+pub stands_at : (c : CaseData) (b : Both) (slot k : ℕ) (e : Stand) → k ≡ 0 → IsAhead c b slot k e → e ≡ stand_at b slot
 unfolding gated_steps
 stands_at c b slot k e none ahead = sym (same_Some (stand_at b slot) e (subst (λ n. gated_steps c.image b.gate.grown n (stand_at b slot) ≡ Some e) none ahead))
 

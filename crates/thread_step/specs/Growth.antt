@@ -15,6 +15,7 @@ use Rattle.hall_core.specs.Hall.{HallData, both, grown}
 use Rattle.guest_parts.specs.Guest.{GuestData, IsGoing, IsWith}
 use Rattle.thread_step.specs.declared.own.Own.{Own}
 use Rattle.thread_step.specs.Entered.{AlongIn, OthersKeepMarks, Table, turn_in}
+use Rattle.thread_step.specs.Steps.{AddsFree}
 
 -- the block is what lifting gives at a place
 abbrev pub FitsAt : ImageData → ℕ → Block → Type 0

@@ -1,5 +1,5 @@
 -- Which entries a turn adds to a journal, and how many steps of instructions they make.
-use Rattle.std.specs.Prelude.{◌≡◌, ℕ, ◌+◌, List, [], ◌∷◌, ◌++◌, All, Option, Some, None, ⊤, ⊥}
+use Rattle.std.specs.Prelude.{◌≡◌, ℕ, ◌+◌, List, [], ◌∷◌, ◌++◌, All, Option, Some, None}
 use Rattle.address_space.specs.Slots.{slot_of}
 use Rattle.elf_image.specs.Layout.{ImageData}
 use Rattle.x86_model.specs.declared.cpu.Cpu.{Cpu}
@@ -41,11 +41,13 @@ pub record AddsFree (t : ℕ) (before after : List Entry) : Type 0 where
   pub journal : after ≡ before ++ entries
   pub free : All (IsFree t) entries
 
--- a miss after k private steps was added, and such entries after it
+-- a miss after k private steps was added, with such entries before and after it
 pub record AddsMiss (t k : ℕ) (before after : List Entry) : Type 0 where
+  pub mid : List Entry
+  pub first : AddsFree t before mid
   pub source : ℕ
   pub target : ℕ
-  pub free : AddsFree t (before ++ Miss t k source target ∷ []) after
+  pub free : AddsFree t (mid ++ Miss t k source target ∷ []) after
 
 -- ---- steps of instructions
 

@@ -20,6 +20,7 @@ use address_space::stack_top;
 use guest_state::Virtual;
 use hall_core::Hall;
 use ir_syntax::Block;
+use lib_table::Birth;
 use std::alloc::{AllocError, Global};
 
 /// The private part of one slot's thread: its registers, where it is in its blocks, its calls back, its private steps since
@@ -53,6 +54,13 @@ fn clear(table: &mut Vec<Option<Kept>>)
     }
 }
 
+// What a thread's start function gets.
+fn argument_of(birth: &Birth) -> u64
+    ensures { result ≡ birth.now.argument }
+{
+    birth.argument
+}
+
 // The registers of a thread before its first step.
 fn start_state(hall: &Hall<Block>, slot: u32) -> Virtual
     requires { slot < 64 }
@@ -62,7 +70,7 @@ fn start_state(hall: &Hall<Block>, slot: u32) -> Virtual
     match hall.birth(slot) {
         None => state.regs[4] = hall.start_rsp(),
         Some(birth) => {
-            state.regs[7] = birth.argument;
+            state.regs[7] = argument_of(&birth);
             state.regs[4] = stack_top(slot) - 8;
         }
     }

@@ -6,6 +6,4 @@ pub returns-in-None : goal.returns-in-None
 returns-in-None c = first_agrees c.make-state.result c.args.hall.now.case c.args.slot c.start_rsp.result _ c.make-state.ensures (sym c.birth.ensures ∙ c.in-None.is) c.start_rsp.ensures (omega (arith, c.start_rsp.type_inv))
 
 pub returns-in-Some : goal.returns-in-Some
-returns-in-Some c =
-    let fits = rw c.in-Some.is at c.birth.type_inv in
-    born_agrees c.make-state.result c.args.hall.now.case c.args.slot (c.stack_top.result - 8) _ c.in-Some.birth c.make-state.ensures (sym c.birth.ensures ∙ c.in-Some.is) (ap (λ z. z - 8) c.stack_top.ensures) (omega (arith, c.stack_top.type_inv)) (let small : c.in-Some.birth.argument < 2 ^ 64 = ? in small)
+returns-in-Some c = born_agrees c.make-state.result c.args.hall.now.case c.args.slot (c.stack_top.result - 8) c.argument_of.result _ c.in-Some.birth c.make-state.ensures (sym c.birth.ensures ∙ c.in-Some.is) (ap (λ z. z - 8) c.stack_top.ensures) (omega (arith, c.stack_top.type_inv)) c.argument_of.ensures (omega (arith, c.argument_of.type_inv))

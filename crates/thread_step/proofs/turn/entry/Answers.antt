@@ -9,7 +9,7 @@ use Rattle.guest_parts.specs.Running.{Rises}
 use Rattle.thread_step.specs.Ages.{AreAges}
 use Rattle.thread_step.specs.Entered.{AlongIn, Asking, Entered}
 use Rattle.thread_step.specs.Turned.{ActIs, AreRules, EntryIs, Ready, StopsIn, TurnIs, rule_of}
-use Rattle.std.proofs.Common.{refl, sym, subst}
+use Rattle.std.proofs.Common.{refl, sym, subst, arith}
 use Rattle.thread_step.proofs.Turning.{along_held, came_stops, entry_failed, entry_with, nothing_made}
 use Rattle.guest_parts.proofs.Runs.{rises_none}
 use Rattle.thread_step.specs.Steps.{instruction_steps}

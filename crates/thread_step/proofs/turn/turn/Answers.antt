@@ -17,24 +17,17 @@ loop-i-init g c = record {
   count = rises_none _ _ (omega arith);
 }
 
--- the case is the same all along
-case_is : (g : given.Over) (c : goal.After-loop-i g) → c.loop-i.hall.case ≡ c.args.hall.now.case
-case_is g c = let r = c.requires.ready in (c.loop-i.invariant.on r.0 r.1).1.case
-
-counted : (g : given.Over) (c : goal.After-entry g) → Rises (g.N.Engine.count c.args.engine.now) (g.N.Engine.count c.entry.new.engine) ((instruction_steps c.args.hall.now.case c.entry.new.hall.journal + c.entry.new.own.k) - (instruction_steps c.args.hall.now.case c.args.hall.now.journal + c.args.own.now.k))
-counted g c = let r = c.requires.ready in count_then c.args.hall.now.case c.loop-i.hall.case _ _ _ c.args.own.now.k c.loop-i.own.k c.entry.new.own.k c.args.hall.now.journal c.loop-i.hall.journal c.entry.new.hall.journal (c.loop-i.invariant.on r.0 r.1).1.case c.loop-i.invariant.count c.entry.ensures.count
-
 pub returns-in-Err-clause-count : goal.returns-in-Err-clause-count
-returns-in-Err-clause-count g c = ?
+returns-in-Err-clause-count g c = let r = c.requires.ready in count_then c.args.hall.now.case c.loop-i.hall.case _ _ _ c.args.own.now.k c.loop-i.own.k c.entry.new.own.k c.args.hall.now.journal c.loop-i.hall.journal c.entry.new.hall.journal (c.loop-i.invariant.on r.0 r.1).1.case c.loop-i.invariant.count c.entry.ensures.count
 
 pub returns-in-Ok-true-clause-count : goal.returns-in-Ok-true-clause-count
-returns-in-Ok-true-clause-count g c = ?
+returns-in-Ok-true-clause-count g c = let r = c.requires.ready in count_then c.args.hall.now.case c.loop-i.hall.case _ _ _ c.args.own.now.k c.loop-i.own.k c.entry.new.own.k c.args.hall.now.journal c.loop-i.hall.journal c.entry.new.hall.journal (c.loop-i.invariant.on r.0 r.1).1.case c.loop-i.invariant.count c.entry.ensures.count
 
 pub returns-then-has_ended-clause-count : goal.returns-then-has_ended-clause-count
-returns-then-has_ended-clause-count g c = ?
+returns-then-has_ended-clause-count g c = let r = c.requires.ready in count_then c.args.hall.now.case c.loop-i.hall.case _ _ _ c.args.own.now.k c.loop-i.own.k c.entry.new.own.k c.args.hall.now.journal c.loop-i.hall.journal c.entry.new.hall.journal (c.loop-i.invariant.on r.0 r.1).1.case c.loop-i.invariant.count c.entry.ensures.count
 
 pub returns-then-not-is_live-clause-count : goal.returns-then-not-is_live-clause-count
-returns-then-not-is_live-clause-count g c = ?
+returns-then-not-is_live-clause-count g c = let r = c.requires.ready in count_then c.args.hall.now.case c.loop-i.hall.case _ _ _ c.args.own.now.k c.loop-i.own.k c.entry.new.own.k c.args.hall.now.journal c.loop-i.hall.journal c.entry.new.hall.journal (c.loop-i.invariant.on r.0 r.1).1.case c.loop-i.invariant.count c.entry.ensures.count
 
 pub returns-in-Err-make_place-clause-count : goal.returns-in-Err-make_place-clause-count
 returns-in-Err-make_place-clause-count g c = let same = held_same c.args.hall.now.case c.loop-i.hall c.make_place.new.hall c.make_place.ensures.same in rises_less _ _ _ _ (omega (arith, same)) c.loop-i.invariant.count
@@ -65,7 +58,7 @@ returns-then-not-is_live-clause-turn g c = λ d ready. let w = c.loop-i.invarian
 pub loop-i-preserved : goal.loop-i-preserved
 loop-i-preserved g c = record {
   on = λ d ready. let w = c.loop-i.invariant.on d ready in (_, goes_on c.args.hall.now c.loop-i.hall c.args.t c.args.rules c.args.own.now c.loop-i.own c.loop-i.table.items d c.loop-i._i w.0 w.1 c.loop-i-test.true c.entry.new.hall c.entry.new.own c.entry.new.table.items (subst (λ b. EntryIs (Ok b) c.loop-i.hall c.entry.new.hall c.args.t c.loop-i.own c.entry.new.own c.entry.new.table.items w.0) c.in-Ok-false.field-0-test (c.in-Ok-false.ensures.entry w.0 w.1.ready)) (none_end _ (sym c.has_ended.ensures ∙ c.if-has_ended.false)) (sym c.is_live.ensures ∙ c.if-not-is_live.false));
-  count = ?;
+  count = (let r = c.requires.ready in count_then c.args.hall.now.case c.loop-i.hall.case _ _ _ c.args.own.now.k c.loop-i.own.k c.entry.new.own.k c.args.hall.now.journal c.loop-i.hall.journal c.entry.new.hall.journal (c.loop-i.invariant.on r.0 r.1).1.case c.loop-i.invariant.count c.entry.ensures.count);
 }
 
 pub returns-in-Err-make_place-clause-turn : goal.returns-in-Err-make_place-clause-turn
