@@ -1,0 +1,6 @@
+//! Programs, runs of one thread, and the rows.
+
+mod blocks;
+mod programs;
+mod rows;
+mod run;
