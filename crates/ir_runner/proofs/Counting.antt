@@ -1,5 +1,5 @@
 -- How often the engine ran.
-use Rattle.std.proofs.Common.{◌≡◌, ℕ, ◌+◌, ◌-◌, ◌<◌, ◌≤◌, ◌⊎◌, inl, inr, Bool, true, false, List, [], ◌∷◌, ◌++◌, Option, Some, None, refl, sym, ap, ◌∙◌, subst, arith}
+use Rattle.std.proofs.Common.{◌≡◌, ℕ, ◌+◌, ◌-◌, ◌≤◌, inl, inr, List, [], ◌∷◌, ◌++◌, Option, Some, None, refl, sym, ap, ◌∙◌, subst, arith}
 use Rattle.std.specs.Prelude.{IsSome}
 use Rattle.ir_syntax.specs.declared.block.Block.{Block}
 use Rattle.journal_pack.specs.declared.entry.Entry.{Entry}
@@ -11,7 +11,7 @@ use Rattle.machine_model.specs.Gated.{Both, advance, begin}
 use Rattle.hall_core.specs.Hall.{HallData, machine}
 use Rattle.guest_parts.specs.Running.{Rises}
 use Rattle.guest_parts.proofs.Runs.{rises_on}
-use Rattle.thread_step.specs.Steps.{entry_steps, instruction_steps, steps_from}
+use Rattle.thread_step.specs.Steps.{instruction_steps, steps_from}
 use Rattle.ir_runner.specs.Rounds.{HasRun}
 
 steps_append : (c : CaseData) (b : Both) (xs ys : List Entry) → steps_from c b (xs ++ ys) ≡ steps_from c b xs + steps_from c (walk_on c b xs) ys

@@ -1,14 +1,13 @@
 -- What the turn of a guest is, by its answer.
-use Rattle.std.proofs.Common.{◌≡◌, ◌≢◌, ℕ, ◌+◌, ◌<◌, Bool, true, false, List, [], ◌++◌, Option, Some, None, refl, sym, ap, ◌∙◌, subst, arith, length}
+use Rattle.std.proofs.Common.{◌≡◌, ◌≢◌, ℕ, ◌<◌, List, [], ◌++◌, Option, Some, None, refl, sym, ap, ◌∙◌, subst, length}
 use Rattle.std.specs.Prelude.{IsSome}
-use Rattle.std.specs.declared.alloc.AllocError.{AllocError}
 use Rattle.std.proofs.lemmas.List.{append-nil}
 use Rattle.ir_syntax.specs.declared.block.Block.{Block}
 use Rattle.journal_pack.specs.declared.entry.Entry.{Entry}
 use Rattle.machine_model.specs.declared.ending.RunEnd.{RunEnd}
-use Rattle.machine_model.specs.Gated.{Both, Leads, Stand, begin, gated_steps, stand_at}
+use Rattle.machine_model.specs.Gated.{Leads, Stand, begin, gated_steps, stand_at}
 use Rattle.machine_model.specs.Own.{IsAhead}
-use Rattle.machine_model.specs.Serial.{AreReaches, Point, Reaches, Run, Turn, one_turn, turn}
+use Rattle.machine_model.specs.Serial.{AreReaches, Point, Reaches, Run, Turn, turn}
 use Rattle.machine_model.specs.State.{thread_in}
 use Rattle.machine_model.proofs.Reaches.{are_reaches, reach_of}
 use Rattle.machine_model.proofs.SerialGated.{spots_from, turn_follows}

@@ -1,5 +1,5 @@
 -- No entry takes back what was written.
-use Rattle.std.proofs.Common.{◌≡◌, ℕ, ◌+◌, Bool, true, false, List, [], ◌∷◌, ◌++◌, Option, Some, None, refl, sym, ap, subst}
+use Rattle.std.proofs.Common.{◌≡◌, ℕ, ◌+◌, Bool, true, false, List, [], ◌∷◌, Option, Some, None, refl, sym, ap, subst}
 use Rattle.std.proofs.lemmas.Option.{option_and_then_some, none-some, same_Some, cond_some}
 use Rattle.address_space.specs.Slots.{slot_of}
 use Rattle.lib_table.specs.declared.ask.Asked.{Asked}
@@ -20,7 +20,7 @@ use Rattle.journal_pack.specs.declared.entry.Entry.TheVariants.{Ev, Tick, Flush,
 use Rattle.journal_pack.specs.Entry.{private_of}
 use Rattle.machine_model.specs.CaseData.{CaseData}
 use Rattle.machine_model.specs.Conversions.{memory_width_of, memory_change_of, asked_at}
-use Rattle.machine_model.specs.Gated.{Both, Leads, advance}
+use Rattle.machine_model.specs.Gated.{Both, Leads}
 use Rattle.machine_model.specs.State.{Core, Machine, list_at, with_core}
 use Rattle.machine_model.specs.Step.{admits, after_private, ask_of, carried_out, core_with, cpu_at, exchanged, flushed, later, loaded, missed, newborn, refused, row_at, served, serving, slot_in, step, step_from, stored, with_birth}
 use Rattle.machine_model.proofs.Costs.{came}

@@ -1,6 +1,6 @@
 -- A turn that doesn't come to a call that waits makes an entry.
-use Rattle.std.proofs.Common.{◌≡◌, ℕ, zero, suc, ◌+◌, ◌-◌, ◌<◌, ◌≤◌, ◌⊎◌, inl, inr, Bool, true, false, List, [], ◌∷◌, ◌++◌, Option, Some, None, refl, sym, ap, ◌∙◌, subst, arith, ◌||◌, length, length-append}
-use Rattle.std.specs.Prelude.{is_none, not, option_and_then}
+use Rattle.std.proofs.Common.{◌≡◌, ℕ, zero, suc, ◌+◌, ◌-◌, ◌<◌, ◌≤◌, ◌⊎◌, inl, inr, Bool, true, false, List, [], ◌∷◌, Option, Some, None, sym, ap, ◌∙◌, arith, ◌||◌, length, length-append}
+use Rattle.std.specs.Prelude.{is_none, not}
 use Rattle.std.proofs.lemmas.Option.{none-some, option_and_then_some, same_Some}
 use Rattle.address_space.specs.Slots.{slot_of}
 use Rattle.x86_model.specs.Want.{want}

@@ -8,12 +8,11 @@ use Rattle.tso_memory.specs.Memory.{Memory, bytes_from}
 use Rattle.callbacks.specs.declared.Frame.{Frame}
 use Rattle.callbacks.specs.declared.Next.{Next}
 use Rattle.callbacks.specs.declared.Next.TheVariants as next
-use Rattle.callbacks.specs.Frame.{probing, resumed}
+use Rattle.callbacks.specs.Frame.{resumed}
 use Rattle.sync_more.specs.declared.ask.SyncName.{SyncName}
 use Rattle.sync_more.specs.declared.ask.SyncName.TheVariants as name
 use Rattle.sync_more.specs.declared.ask.Outcome.{Outcome}
 use Rattle.sync_more.specs.declared.ask.Outcome.TheVariants as outcome
-use Rattle.sync_more.specs.Row as rooms
 use Rattle.lib_table.specs.declared.answer.BadKind.{BadKind}
 use Rattle.lib_table.specs.declared.answer.Called.{Called}
 use Rattle.lib_table.specs.declared.ask.Ask.{Ask}
@@ -22,12 +21,12 @@ use Rattle.lib_table.specs.declared.ask.Asked.TheVariants.{Lib, EndDoor, CallDoo
 use Rattle.lib_table.specs.declared.life.Life.{Life}
 use Rattle.lib_table.specs.declared.life.Life.TheVariants.{Unborn, Live, Ended, Joined}
 use Rattle.lib_table.specs.declared.limits.TheConstants.{MAX_BYTES, MAX_FRAMES, MAX_OUTPUT}
-use Rattle.lib_table.specs.Library.{LibraryData, is_held, is_held_by, life_at, next_number, with_life}
-use Rattle.lib_table.specs.Outcome.{RowResult, Done, Waits, Bad, a1, a2, a3, a4, low_32, sync_args, unless_denied, unreadable, unwritable, word_at}
+use Rattle.lib_table.specs.Library.{LibraryData, is_held, life_at, next_number, with_life}
+use Rattle.lib_table.specs.Outcome.{RowResult, Done, Waits, Bad, a1, a2, a3, a4, low_32, unless_denied, unreadable, unwritable, word_at}
 use Rattle.lib_table.specs.Threads.{born_if, create, end_door, ended, first_rsp, join, joined, joining, self_id}
-use Rattle.lib_table.specs.Sync.{comes_to, cond_wait, is_takeable, once, sync}
+use Rattle.lib_table.specs.Sync.{comes_to, cond_wait, once, sync}
 use Rattle.lib_table.specs.Mutexes.{destroy, init, lock, taken, trylock, unlock}
-use Rattle.lib_table.specs.Searches.{after_routine, call_door, compared, comparison, new_frame, search_for, searching, searching_on}
+use Rattle.lib_table.specs.Searches.{after_routine, call_door, compared, comparison, search_for, searching, searching_on}
 use Rattle.lib_table.specs.Streams.{appended, read, write}
 use Rattle.lib_table.specs.Row.{asked_row, call_row, row}
 

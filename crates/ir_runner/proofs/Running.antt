@@ -1,6 +1,6 @@
 -- One round of a run, and the run up to there.
-use Rattle.std.proofs.Common.{◌≡◌, ℕ, ◌+◌, ◌-◌, ◌*◌, ◌<◌, ◌≤◌, Bool, true, false, cond, List, [], ◌∷◌, ◌++◌, Option, Some, None, refl, sym, ap, ◌∙◌, subst, arith, length, length-append}
-use Rattle.std.specs.Prelude.{◌||◌, is_some, map, replicate, drop, IsSome}
+use Rattle.std.proofs.Common.{◌≡◌, ℕ, ◌-◌, ◌<◌, ◌≤◌, Bool, true, false, cond, List, [], ◌++◌, Option, Some, None, refl, sym, ap, ◌∙◌, subst, arith, length, length-append}
+use Rattle.std.specs.Prelude.{◌||◌, is_some, map, replicate, drop}
 use Rattle.std.specs.FinMap.{FinMap, get}
 use Rattle.std.specs.Ordering.{nat_cmp}
 use Rattle.std.proofs.lemmas.List.{append_assoc}
@@ -26,7 +26,7 @@ use Rattle.thread_step.specs.Steps.{instruction_steps, steps_from}
 use Rattle.thread_step.specs.Turned.{serial_rules}
 use Rattle.ir_runner.specs.declared.run.Ran.{Ran}
 use Rattle.ir_runner.specs.declared.run.Ran.TheVariants.{Ended, Stopped, Memory}
-use Rattle.ir_runner.specs.Outputs.{Gains, GainsBy, HoldsPart, Written, written}
+use Rattle.ir_runner.specs.Outputs.{Gains, GainsBy, Written, written}
 use Rattle.ir_runner.specs.Rounds.{AreGuests, BeganRound, HasRun, TookRound}
 use Rattle.ir_runner.specs.Runs.{BeginsSerial, JournalIs, OutputsAre, RoundIs, WroteRound}
 use Rattle.ir_runner.proofs.Counting.{Grew}

@@ -1,13 +1,12 @@
 -- Rounds, one after another, are those of the serial order.
-use Rattle.std.proofs.Common.{◌≡◌, ℕ, zero, suc, ◌+◌, ◌-◌, ◌*◌, ◌<◌, ◌≤◌, Bool, true, false, List, [], ◌∷◌, ◌++◌, Option, Some, None, refl, sym, ap, ◌∙◌, subst, arith, length, replicate}
+use Rattle.std.proofs.Common.{◌≡◌, ℕ, zero, suc, ◌+◌, ◌*◌, ◌<◌, ◌≤◌, true, false, List, [], Option, Some, None, refl, sym, ap, ◌∙◌, subst, length, replicate}
 use Rattle.std.specs.Prelude.{map, option_and_then, IsSome}
 use Rattle.std.proofs.lemmas.Option.{none-some, option_and_then_some, same_Some}
 use Rattle.ir_syntax.specs.declared.block.Block.{Block}
-use Rattle.journal_pack.specs.declared.entry.Entry.{Entry}
 use Rattle.machine_model.specs.declared.ending.RunEnd.{RunEnd}
 use Rattle.machine_model.specs.CaseData.{CaseData}
 use Rattle.machine_model.specs.Comes.{both_of, walk_on}
-use Rattle.machine_model.specs.Gated.{Both, Leads, begin, most_grown}
+use Rattle.machine_model.specs.Gated.{Leads, begin, most_grown}
 use Rattle.machine_model.specs.Serial.{AreReaches, IsSerial, Reaches, Run, at_start, is_serial_by, round, rounds, rounds_on, serial_by}
 use Rattle.machine_model.proofs.NamesDead.{serial_named}
 use Rattle.machine_model.proofs.Reaches.{are_reaches, reach_of, serial_told}
@@ -17,7 +16,7 @@ use Rattle.hall_core.specs.Hall.{HallData, both, machine}
 use Rattle.thread_step.specs.declared.guest.Guest.{Guest}
 use Rattle.thread_step.specs.declared.rules.Rules.{Rules}
 use Rattle.thread_step.specs.Guest.{guest_ages}
-use Rattle.thread_step.specs.Turned.{AreRules, serial_rules}
+use Rattle.thread_step.specs.Turned.{serial_rules}
 use Rattle.ir_runner.specs.Rounds.{BeganRound, HasRound, TookRound, run_of}
 use Rattle.ir_runner.specs.Runs.{BeginsSerial}
 use Rattle.ir_runner.proofs.Following.{Adds, begins_on, round_adds, rounds_add}
@@ -69,11 +68,13 @@ pub has_round : (h : HallData Block) (guests : List Guest) (r : Rules) → CanRu
 has_round h guests r can i going = λ reach right. let l = left_of h guests r can i going reach right in (l.next, l.made)
 
 pub serial_on : (h new : HallData Block) (guests after : List Guest) (r : Rules) → CanRun h.case r → InSerial h guests r → (machine h).ending ≡ None → new.case ≡ h.case → TookRound h new guests after r → InSerial new after r
-serial_on h new guests after r can i going case t = record { left = λ reach right.
-    let here : AreReaches h.case.image reach = subst (λ (c : CaseData). AreReaches c.image reach) case right in
-    let l = left_of h guests r can i going reach here in
-    let q : serial_by h.case reach (serial_rules r) ≡ rounds h.case reach (serial_rules r) l.rest (run_of new after) = l.same ∙ ap (option_and_then (rounds h.case reach (serial_rules r) l.rest)) (t reach here) in
-    (l.rest, subst (λ (c : CaseData). serial_by c reach (serial_rules r) ≡ rounds c reach (serial_rules r) l.rest (run_of new after)) (sym case) q) }
+serial_on h new guests after r can i going case t = record {
+  left = λ reach right.
+      let here : AreReaches h.case.image reach = subst (λ (c : CaseData). AreReaches c.image reach) case right in
+      let l = left_of h guests r can i going reach here in
+      let q : serial_by h.case reach (serial_rules r) ≡ rounds h.case reach (serial_rules r) l.rest (run_of new after) = l.same ∙ ap (option_and_then (rounds h.case reach (serial_rules r) l.rest)) (t reach here) in
+      (l.rest, subst (λ (c : CaseData). serial_by c reach (serial_rules r) ≡ rounds c reach (serial_rules r) l.rest (run_of new after)) (sym case) q);
+}
 
 ended_rounds : (c : CaseData) (reach : Reaches) (r : Rules) (n : ℕ) (run : Run) (e : RunEnd) → run.both.machine.ending ≡ Some e → rounds c reach (serial_rules r) n run ≡ Some run
 unfolding rounds

@@ -1,5 +1,5 @@
 -- The turn of a slot, by what the turn of its guest is.
-use Rattle.std.proofs.Common.{◌≡◌, ◌≢◌, ℕ, ◌+◌, ◌<◌, Bool, true, false, List, [], ◌++◌, inl, inr, Option, Some, None, refl, sym, ap, ◌∙◌, subst, arith, length, length-set}
+use Rattle.std.proofs.Common.{◌≡◌, ◌≢◌, ℕ, ◌<◌, true, false, List, [], ◌++◌, inl, inr, Option, Some, None, refl, sym, ap, ◌∙◌, subst, arith, length, length-set}
 use Rattle.std.specs.Prelude.{get_or, map, slice_set, IsSome, ⊤}
 use Rattle.std.specs.declared.alloc.AllocError.{AllocError}
 use Rattle.std.proofs.lemmas.Bool.{cases_eq}
@@ -11,7 +11,7 @@ use Rattle.machine_model.specs.declared.ending.RunEnd.{RunEnd}
 use Rattle.machine_model.specs.Gated.{Both}
 use Rattle.machine_model.specs.Serial.{AreReaches, Reaches, Run, one_turn, turn_unless}
 use Rattle.machine_model.specs.State.{thread_in}
-use Rattle.hall_core.specs.Hall.{HallData, both, machine, mark_at}
+use Rattle.hall_core.specs.Hall.{HallData, machine, mark_at}
 use Rattle.thread_step.specs.declared.guest.Guest.{Guest}
 use Rattle.thread_step.specs.declared.rules.Rules.{Rules}
 use Rattle.thread_step.specs.declared.rules.Turned.{Turned}

@@ -1,5 +1,5 @@
 -- A round slot by slot.
-use Rattle.std.proofs.Common.{◌≡◌, ◌≢◌, ℕ, zero, suc, ◌+◌, ◌-◌, ◌<◌, ◌≤◌, Bool, true, false, cond, List, [], ◌∷◌, ◌++◌, inl, inr, Option, Some, None, refl, sym, ap, ◌∙◌, subst, arith, ◌==◌, ◌&&◌, ◌||◌, length}
+use Rattle.std.proofs.Common.{◌≡◌, ◌≢◌, ℕ, suc, ◌+◌, ◌-◌, ◌<◌, ◌≤◌, true, false, List, [], ◌∷◌, ◌++◌, inl, inr, Option, Some, None, refl, sym, ap, ◌∙◌, subst, arith, ◌==◌, ◌&&◌, ◌||◌, length}
 use Rattle.std.specs.Prelude.{is_some, not, option_and_then, IsSome}
 use Rattle.std.specs.List.{list_all, range_with_len}
 use Rattle.std.proofs.lemmas.Bool.{cases_eq}
@@ -12,18 +12,18 @@ use Rattle.journal_pack.specs.declared.entry.Entry.TheVariants.{Dead}
 use Rattle.lib_table.specs.declared.ask.Ask.{Ask}
 use Rattle.lib_table.specs.declared.life.Life.{Life}
 use Rattle.lib_table.specs.declared.life.Life.TheVariants.{Unborn, Live, Ended, Joined}
-use Rattle.lib_table.specs.Library.{LibraryData, is_running, live_number, number_at, slot_at}
+use Rattle.lib_table.specs.Library.{is_running, live_number, number_at, slot_at}
 use Rattle.machine_model.specs.CaseData.{CaseData}
 use Rattle.machine_model.specs.Comes.{both_of}
 use Rattle.machine_model.specs.Gated.{Both, Leads, advance, begin}
 use Rattle.machine_model.specs.Play.{walk}
 use Rattle.machine_model.specs.Serial.{AreReaches, Reaches, Run, dead_if, one_turn, round, with_dead}
-use Rattle.machine_model.specs.State.{Machine, slots, thread_in}
+use Rattle.machine_model.specs.State.{slots, thread_in}
 use Rattle.machine_model.specs.Step.{after_private, cpu_at, is_deadlocked, is_in_use, slot_in, step, step_from}
 use Rattle.machine_model.proofs.Comes.{both_more}
 use Rattle.machine_model.proofs.Costs.{came}
 use Rattle.machine_model.proofs.Independence.{if_some}
-use Rattle.machine_model.proofs.Reaches.{are_reaches, one_place, reach_of}
+use Rattle.machine_model.proofs.Reaches.{are_reaches, reach_of}
 use Rattle.machine_model.proofs.SerialGated.{spots_from}
 use Rattle.machine_model.proofs.Gates.{leads_on}
 use Rattle.machine_model.proofs.Slots.{all_slots}
@@ -101,18 +101,21 @@ way_on start now new guests mid after r s lt case t marks w =
 -- memory was wanting in the turn of a slot
 pub way_breaks : (start now new : HallData Block) (guests mid : List Guest) (r : Rules) (s : ℕ) → s < 64 → BeganTurn now new mid r s → Way start now guests mid r s → BeganRound start new guests r
 unfolding round walk
-way_breaks start now new guests mid r s lt b w = record { grew = grown_on start.journal now.journal new.journal w.added b.grew; begins = λ reach x right p.
-    let c = start.case in
-    let f = one_turn c reach (serial_rules r) in
-    let spots = spots_of now mid w.leads in
-    option_and_then_some (λ (after : Run). dead_if c after (length after.journal == length start.journal)) (walk f (run_of start guests) slots) x p (λ after q d.
-    let left : walk f (run_of now mid) (s ∷ range_with_len (s + 1) (64 - (s + 1))) ≡ Some after = ap (walk f (run_of now mid)) (sym (from_next s lt)) ∙ sym (w.walk reach right) ∙ q in
-    option_and_then_some (λ y. walk f y (range_with_len (s + 1) (64 - (s + 1)))) (f (run_of now mid) s) after left (λ y one rest.
-    let first = turn_adds c reach (serial_rules r) (run_of now mid) y s right spots one in
-    let second = walk_adds c reach (serial_rules r) y after (range_with_len (s + 1) (64 - (s + 1))) right first.spots rest in
-    let third = dead_adds c after x (length after.journal == length start.journal) second.spots d in
-    let began = b.begins reach y (subst (λ (k : CaseData). AreReaches k.image reach) (sym w.case) right) (subst (λ (k : CaseData). one_turn k reach (serial_rules r) (run_of now mid) s ≡ Some y) (sym w.case) one) in
-    begins_on c after x new.journal (begins_on c y after new.journal began second) third)) }
+way_breaks start now new guests mid r s lt b w = record {
+  grew = grown_on start.journal now.journal new.journal w.added b.grew;
+  begins = λ reach x right p.
+      let c = start.case in
+      let f = one_turn c reach (serial_rules r) in
+      let spots = spots_of now mid w.leads in
+      option_and_then_some (λ (after : Run). dead_if c after (length after.journal == length start.journal)) (walk f (run_of start guests) slots) x p (λ after q d.
+      let left : walk f (run_of now mid) (s ∷ range_with_len (s + 1) (64 - (s + 1))) ≡ Some after = ap (walk f (run_of now mid)) (sym (from_next s lt)) ∙ sym (w.walk reach right) ∙ q in
+      option_and_then_some (λ y. walk f y (range_with_len (s + 1) (64 - (s + 1)))) (f (run_of now mid) s) after left (λ y one rest.
+      let first = turn_adds c reach (serial_rules r) (run_of now mid) y s right spots one in
+      let second = walk_adds c reach (serial_rules r) y after (range_with_len (s + 1) (64 - (s + 1))) right first.spots rest in
+      let third = dead_adds c after x (length after.journal == length start.journal) second.spots d in
+      let began = b.begins reach y (subst (λ (k : CaseData). AreReaches k.image reach) (sym w.case) right) (subst (λ (k : CaseData). one_turn k reach (serial_rules r) (run_of now mid) s ≡ Some y) (sym w.case) one) in
+      begins_on c after x new.journal (begins_on c y after new.journal began second) third));
+}
 
 not_same : (a b : ℕ) → a ≢ b → (a == b) ≡ false
 not_same a b ne = grind (arith, nat_tests)
@@ -192,10 +195,13 @@ way_ended start now new guests mid r w e stuck case journal = λ reach right.
 -- what was made when memory for the last entry was wanting
 pub way_lacks : (start now new : HallData Block) (guests mid : List Guest) (r : Rules) → Way start now guests mid r 64 → new.journal ≡ now.journal → BeganRound start new guests r
 unfolding round
-way_lacks start now new guests mid r w journal = record { grew = (w.added.0, journal ∙ w.added.1); begins = λ reach x right p.
-    let c = start.case in
-    option_and_then_some (λ (after : Run). dead_if c after (length after.journal == length start.journal)) (walk (one_turn c reach (serial_rules r)) (run_of start guests) slots) x p (λ after q d.
-    let same : run_of now mid ≡ after = same_Some (run_of now mid) after (sym (walked start now guests mid r w reach right) ∙ q) in
-    let spots : length after.both.gate.spots ≡ 64 = subst (λ (y : Run). length y.both.gate.spots ≡ 64) same (spots_of now mid w.leads) in
-    let a = dead_adds c after x (length after.journal == length start.journal) spots d in
-    (a.more, a.journal ∙ ap (λ (y : Run). y.journal ++ a.more) (sym same) ∙ ap (λ j. j ++ a.more) (sym journal))) }
+way_lacks start now new guests mid r w journal = record {
+  grew = (w.added.0, journal ∙ w.added.1);
+  begins = λ reach x right p.
+      let c = start.case in
+      option_and_then_some (λ (after : Run). dead_if c after (length after.journal == length start.journal)) (walk (one_turn c reach (serial_rules r)) (run_of start guests) slots) x p (λ after q d.
+      let same : run_of now mid ≡ after = same_Some (run_of now mid) after (sym (walked start now guests mid r w reach right) ∙ q) in
+      let spots : length after.both.gate.spots ≡ 64 = subst (λ (y : Run). length y.both.gate.spots ≡ 64) same (spots_of now mid w.leads) in
+      let a = dead_adds c after x (length after.journal == length start.journal) spots d in
+      (a.more, a.journal ∙ ap (λ (y : Run). y.journal ++ a.more) (sym same) ∙ ap (λ j. j ++ a.more) (sym journal)));
+}

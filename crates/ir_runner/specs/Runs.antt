@@ -1,5 +1,5 @@
 -- Whole runs: their journals, and what they leave of the two sinks.
-use Rattle.std.specs.Prelude.{◌≡◌, ℕ, Bool, true, false, ◌||◌, List, [], ◌++◌, drop, length, Option, Some, None, IsSome}
+use Rattle.std.specs.Prelude.{◌≡◌, Bool, true, false, ◌||◌, List, [], ◌++◌, drop, length, Option, Some, None, IsSome}
 use Rattle.ir_syntax.specs.declared.block.Block.{Block}
 use Rattle.journal_pack.specs.declared.entry.Entry.{Entry}
 use Rattle.machine_model.specs.CaseData.{CaseData}

@@ -1,5 +1,4 @@
-use Rattle.std.proofs.Common.{ℕ, ◌≡◌, ◌+◌, arith, subst, sym, ap, ◌∙◌}
-use Rattle.std.specs.Prelude.{replicate, List, []}
+use Rattle.std.proofs.Common.{◌≡◌, ◌+◌, arith, subst, sym}
 use Rattle.ir_runner.proofs.Rounding.{Firsts, first_guests, one_first}
 use Rattle.ir_runner.proofs.rounds.make_guests.Goals as goal
 

@@ -1,4 +1,4 @@
-use Rattle.std.proofs.Common.{ℕ, ◌≡◌, ◌≢◌, arith, sym, subst, ap, ◌∙◌, length}
+use Rattle.std.proofs.Common.{◌≡◌, ◌≢◌, arith, sym, subst, ap, ◌∙◌, length}
 use Rattle.thread_step.specs.Steps.{instruction_steps}
 use Rattle.ir_runner.proofs.Counting.{dead_steps, ran_nothing, ran_same, ran_then}
 use Rattle.ir_runner.proofs.Rounding.{ended_then, on_err}

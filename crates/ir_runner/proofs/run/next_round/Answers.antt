@@ -1,5 +1,5 @@
-use Rattle.std.proofs.Common.{◌≡◌, ◌+◌, ◌<◌, ◌≤◌, length, ap, arith}
-use Rattle.ir_runner.proofs.Running.{first_within, round_is, second_within}
+use Rattle.std.proofs.Common.{◌<◌, length, ap, arith}
+use Rattle.ir_runner.proofs.Running.{first_within, second_within}
 use Rattle.ir_runner.proofs.Serials.{took_longer}
 use Rattle.ir_runner.proofs.run.next_round.Goals as goal
 

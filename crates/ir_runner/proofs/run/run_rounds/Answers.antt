@@ -1,4 +1,4 @@
-use Rattle.std.proofs.Common.{◌≡◌, ◌≤◌, [], length, sym, subst, refl, ◌∙◌}
+use Rattle.std.proofs.Common.{◌≤◌, [], length, sym, subst, refl, ◌∙◌}
 use Rattle.machine_model.specs.CaseData.{CaseData}
 use Rattle.machine_model.specs.Gated.{most_grown}
 use Rattle.ir_runner.proofs.Counting.{ran_nothing, ran_then}

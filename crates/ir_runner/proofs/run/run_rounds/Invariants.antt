@@ -1,4 +1,4 @@
-use Rattle.std.proofs.Common.{ℕ, ◌+◌, ◌-◌, ◌*◌, length}
+use Rattle.std.proofs.Common.{◌+◌, ◌-◌, ◌*◌, length}
 use Rattle.ir_runner.specs.Rounds.{HasRun}
 use Rattle.ir_runner.proofs.Counting.{Grew}
 use Rattle.ir_runner.proofs.Running.{SoFar}

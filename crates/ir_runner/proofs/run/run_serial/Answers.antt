@@ -1,4 +1,4 @@
-use Rattle.std.proofs.Common.{◌≡◌, ◌∙◌, ap, arith, length, subst}
+use Rattle.std.proofs.Common.{◌∙◌, ap, arith, length}
 use Rattle.lift_table.specs.Block.{lifted_block}
 use Rattle.machine_model.specs.CaseData.{CaseData}
 use Rattle.ir_runner.proofs.Running.{blocks_stay, first_grown, stays_grown, whole_ran}
