@@ -1,0 +1,12 @@
+pub mod RowOutputs
+pub mod JournalOutputs
+pub mod Following
+pub mod Quiet
+pub mod Sinks
+pub mod Turns
+pub mod Guests
+pub mod Walking
+pub mod Serials
+pub mod Rounding
+pub mod Running
+pub mod Counting
