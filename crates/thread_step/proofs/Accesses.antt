@@ -1,8 +1,8 @@
 -- Accesses to memory, fences and steps that can't be made, in a turn.
-use Rattle.std.proofs.Common.{◌≡◌, ◌≢◌, ℕ, suc, ◌+◌, ◌-◌, ◌<◌, ◌≤◌, ◌^◌, Bool, true, false, cond, List, [], ◌∷◌, ◌++◌, drop, length, Option, Some, None, IfSome, refl, sym, subst, ap, arith, ◌∙◌}
-use Rattle.std.specs.Prelude.{is_none, nat_le, if◌then◌else◌, option_and_then, slice_index}
+use Rattle.std.proofs.Common.{◌≡◌, ℕ, ◌+◌, ◌<◌, ◌^◌, Bool, true, false, cond, List, [], ◌∷◌, ◌++◌, length, Option, Some, None, IfSome, refl, sym, subst, ap, arith, ◌∙◌}
+use Rattle.std.specs.Prelude.{nat_le, option_and_then, slice_index}
 use Rattle.std.proofs.lemmas.Bool.Decides.{nat_tests}
-use Rattle.std.proofs.lemmas.Option.{none-some, option_and_then_some, same_Some}
+use Rattle.std.proofs.lemmas.Option.{none-some, same_Some}
 use Rattle.address_space.specs.Slots.{slot_of}
 use Rattle.guest_state.specs.declared.virtual_state.Virtual.{Virtual}
 use Rattle.ir_meaning.specs.Does.{answered}
@@ -18,7 +18,6 @@ use Rattle.ir_syntax.specs.declared.width.Width.{Width as IrWidth}
 use Rattle.ir_syntax.specs.declared.width.Width.TheVariants as ir_size
 use Rattle.journal_pack.specs.declared.entry.Entry.{Entry}
 use Rattle.journal_pack.specs.declared.entry.Entry.TheVariants.{Ev}
-use Rattle.lib_table.specs.declared.ask.Asked.{Asked}
 use Rattle.lift_table.specs.Follow.{ir_change}
 use Rattle.lift_table.specs.LiftLines.{ir_width}
 use Rattle.tso_memory.specs.declared.access.Access.TheVariants as access
@@ -41,12 +40,11 @@ use Rattle.machine_model.specs.CaseData.{CaseData}
 use Rattle.machine_model.specs.Conversions.{kind_of, memory_change_of, memory_width_of, request_change_of, request_kind_of, request_width_of}
 use Rattle.machine_model.specs.Gated.{Both, Stand, advance, entered, onward}
 use Rattle.machine_model.specs.Own.{refusal, writes_at}
-use Rattle.machine_model.specs.Serial.{AtEvent, Point, Reaches, Turn, act, event, event_by, flush_some, flushed_before, with_new}
+use Rattle.machine_model.specs.Serial.{AtEvent, Point, Turn, event, flush_some, flushed_before, with_new}
 use Rattle.machine_model.specs.State.{Machine, list_at}
 use Rattle.machine_model.specs.Step.{asked_by, carried_out, core_with, exchanged, later, refused, waits_at, waits_for, with_cpu}
 use Rattle.hall_core.specs.Hall.{Comes, HallData, Needs, NeedsAt, added, both, machine}
 use Rattle.hall_core.specs.Shared.{Fails, Fences, Loads, Locks, Need, Stores, loaded_value, locked_value, need_of, shared_of, unless_denied}
-use Rattle.guest_parts.specs.Guest.{IsGoing, IsWith}
 use Rattle.guest_parts.specs.Points.{Acts, point_at, turn_of}
 use Rattle.guest_parts.specs.Requests.{IsBad, IsStore, StandOn, stand_by}
 use Rattle.guest_parts.specs.Standing.{StandsIn, end_of, places_of}
@@ -104,7 +102,7 @@ acts_now c t q b n journal ages w e none quiet comes =
     let count : flushed_before (want c.image q.stand.cpu) (length (list_at b.machine (slot_of t))) ≡ 0 = ap (λ z. flushed_before z (length (list_at b.machine (slot_of t)))) e ∙ none in
     let free : waits_at c.image b.machine t q.stand.cpu ≡ false = ap (waits_for b.machine t (core_with b.machine t q.stand.cpu)) (ap asked_by e ∙ quiet) in
     subst (λ z. Acts c t q (turn_of b journal ages) AtEvent (turn_of n (journal ++ Ev t q.k ∷ []) (with_new z ages))) e
-      (event_acts_by c t q (turn_of b journal ages) b n journal ages (no_flush c t (turn_of b journal ages) _ count) free comes)
+    (event_acts_by c t q (turn_of b journal ages) b n journal ages (no_flush c t (turn_of b journal ages) _ count) free comes)
 
 -- the same after so many writes went to memory
 pub acts_flushed : (c : CaseData) (t m : ℕ) (q : Point) (s now x : Turn) (w : Want) → want c.image q.stand.cpu ≡ w → flushed_before w (length (list_at s.both.machine (slot_of t))) ≡ m → flush_some c t m s ≡ Some now → flushed_before w (length (list_at now.both.machine (slot_of t))) ≡ 0 → Acts c t q now AtEvent x → Acts c t q s AtEvent x

@@ -1,9 +1,9 @@
 -- Which entries are added.
-use Rattle.std.proofs.Common.{◌≡◌, ℕ, zero, suc, Bool, true, false, List, [], ◌∷◌, ◌++◌, ◌⊎◌, inl, inr, Option, Some, None, refl, sym, ap, ◌∙◌, subst, nat_lt}
+use Rattle.std.proofs.Common.{◌≡◌, ℕ, zero, suc, Bool, true, false, List, [], ◌∷◌, ◌++◌, inl, inr, Option, Some, None, refl, sym, ap, ◌∙◌, subst, nat_lt}
 use Rattle.std.specs.Prelude.{All}
 use Rattle.std.proofs.lemmas.List.{append-nil, append_assoc}
 use Rattle.std.proofs.lemmas.List.Elements.{All-append, All-cons, All-head, All-nil, All-tail}
-use Rattle.std.proofs.lemmas.Option.{none-some, option_and_then_some, same_Some}
+use Rattle.std.proofs.lemmas.Option.{option_and_then_some, same_Some}
 use Rattle.journal_pack.specs.declared.entry.Entry.{Entry}
 use Rattle.journal_pack.specs.declared.entry.Entry.TheVariants.{Ev, Tick, Flush, Wait, Miss, Grow, Over, Full, Dead}
 use Rattle.journal_pack.specs.Entry.{thread_of}
@@ -14,7 +14,7 @@ use Rattle.machine_model.specs.Serial.{Turn, aged, flush, flush_if, flush_old, f
 use Rattle.machine_model.proofs.SerialGated.{made}
 use Rattle.machine_laws.specs.Others.{AreOf}
 use Rattle.thread_step.specs.Entered.{TellsPartly}
-use Rattle.thread_step.specs.Steps.{Adds, AddsFree, AddsMiss, IsFree}
+use Rattle.thread_step.specs.Steps.{Adds, AddsFree, IsFree}
 
 -- ---- entries of a thread
 

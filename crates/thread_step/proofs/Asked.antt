@@ -1,5 +1,5 @@
 -- What a thread asks of the library at an address.
-use Rattle.std.proofs.Common.{◌≡◌, ◌≢◌, ℕ, Bool, true, false, ◌&&◌, Option, Some, None, refl, sym, ap, ◌∙◌}
+use Rattle.std.proofs.Common.{◌≡◌, ◌≢◌, ℕ, true, ◌&&◌, Option, Some, None, refl, sym, ap, ◌∙◌}
 use Rattle.std.proofs.lemmas.Bool.{ne_eqb}
 use Rattle.std.proofs.lemmas.Option.{none-some}
 use Rattle.std.specs.Prelude.{is_none}
@@ -7,7 +7,6 @@ use Rattle.address_space.specs.declared.TheConstants.{CALL_DOOR, END_DOOR}
 use Rattle.elf_image.specs.Layout.{ImageData, function_at}
 use Rattle.elf_image.specs.declared.place.Function.{Function}
 use Rattle.x86_model.specs.declared.want.Door.{Door}
-use Rattle.x86_model.specs.declared.want.Door.TheVariants as door
 use Rattle.x86_model.specs.Want.{door_at}
 use Rattle.basic_blocks.specs.Places.{is_code_place}
 use Rattle.lib_table.specs.declared.ask.Asked.{Asked}

@@ -13,7 +13,6 @@ use Rattle.elf_image.specs.Layout.{ImageData, function_at}
 use Rattle.elf_image.specs.declared.place.Function.{Function}
 use Rattle.elf_image.specs.declared.place.Function.TheVariants as function
 use Rattle.ir_syntax.specs.declared.block.Block.{Block}
-use Rattle.journal_pack.specs.declared.entry.Entry.{Entry}
 use Rattle.journal_pack.specs.declared.entry.Entry.TheVariants.{Ev, Wait}
 use Rattle.lib_table.specs.declared.answer.BadKind.{BadKind}
 use Rattle.lib_table.specs.declared.answer.Called.{Called}
@@ -22,7 +21,7 @@ use Rattle.lib_table.specs.declared.ask.Ask.{Ask}
 use Rattle.lib_table.specs.declared.ask.Asked.{Asked}
 use Rattle.lib_table.specs.declared.ask.Asked.TheVariants.{Lib, EndDoor}
 use Rattle.lib_table.specs.Library.{LibraryData}
-use Rattle.lib_table.specs.Outcome.{Bad, Done, RowResult, Waits}
+use Rattle.lib_table.specs.Outcome.{Bad, Done, RowResult}
 use Rattle.lib_table.specs.Row.{is_waiting, row, waits}
 use Rattle.lib_table.specs.Steps.{told}
 use Rattle.lib_table.specs.declared.answer.Stepped.{Stepped}
@@ -37,19 +36,16 @@ use Rattle.basic_blocks.specs.Places.{is_code_place}
 use Rattle.machine_model.specs.CaseData.{CaseData}
 use Rattle.machine_model.specs.Frames.{AreCalls}
 use Rattle.machine_model.specs.Gated.{Both, Stand, advance, gated_steps, stand_at}
-use Rattle.machine_model.specs.Own.{IsWhole, frames_at, writes_at}
-use Rattle.machine_model.specs.Play.{play}
+use Rattle.machine_model.specs.Own.{writes_at}
 use Rattle.machine_model.specs.Ready.{HasGrown}
 use Rattle.machine_model.specs.Serial.{AreReaches, AtEvent, Point, Reaches, Turn, act, event, flush_some, flushed_before, is_missing}
-use Rattle.machine_model.specs.State.{Core, core_at, is_live, list_at}
-use Rattle.machine_model.specs.Step.{ask_of, asked_by, core_with, waits_at, without_top}
-use Rattle.machine_model.proofs.Calls.{calls_played}
+use Rattle.machine_model.specs.State.{Core, list_at}
+use Rattle.machine_model.specs.Step.{ask_of, asked_by, core_with, without_top}
 use Rattle.machine_model.proofs.Comes.{both_more}
-use Rattle.machine_model.proofs.Own.{steps_private}
-use Rattle.hall_core.specs.Hall.{Comes, HallData, Needs, NeedsAt, added, both, machine, mark_at, with_mark}
+use Rattle.hall_core.specs.Hall.{Comes, HallData, NeedsAt, added, both, machine, mark_at, with_mark}
 use Rattle.hall_core.specs.Shared.{Asks, has_to_wait, need_of}
-use Rattle.guest_parts.specs.Calls.{AsksWith, FitsRegisters, IsAtCall, LeavesGone, asked_in, asked_of, frames_after, goes_on, guest_after, place_after, request_of}
-use Rattle.guest_parts.specs.Guest.{GuestData, IsGoing, IsWith, LeavesEnded, LeavesWith}
+use Rattle.guest_parts.specs.Calls.{AsksWith, FitsRegisters, IsAtCall, LeavesGone, asked_in, asked_of, goes_on, guest_after, place_after, request_of}
+use Rattle.guest_parts.specs.Guest.{GuestData, IsWith, LeavesEnded, LeavesWith}
 use Rattle.guest_parts.specs.Points.{Acts, point_at, turn_of, waiting_of}
 use Rattle.guest_parts.proofs.CallEntries.{asks_with, call_answers, call_comes, call_ends, call_faults}
 use Rattle.guest_parts.proofs.Entries.{wait_leaves}
@@ -65,9 +61,9 @@ use Rattle.thread_step.specs.Kept.{AreKept}
 use Rattle.thread_step.specs.Own.{Along, IsUnder, data_of, position_of}
 use Rattle.thread_step.specs.Stretched.{StopsAt}
 use Rattle.thread_step.proofs.Accesses.{acts_flushed, no_flush, none_waiting}
-use Rattle.thread_step.proofs.Begins.{Begins, act_begins}
+use Rattle.thread_step.proofs.Begins.{act_begins}
 use Rattle.thread_step.proofs.Composed.{along_flushed, entered_flushed}
-use Rattle.thread_step.proofs.Entering.{Left, entered_by, grown_event, grown_wait, left_ended, left_with, may_come, needs_at}
+use Rattle.thread_step.proofs.Entering.{Left, entered_by, grown_event, grown_wait, left_ended, left_with, needs_at}
 
 pub if_failed : (P : Result Bool AllocError → Type 0) → ((e : AllocError) → P (Err e)) → (r : Result Bool AllocError) → IsErr r → P r
 if_failed P f (Ok x) h = absurd (let no : false ≡ true = h in cc)

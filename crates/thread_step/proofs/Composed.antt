@@ -1,18 +1,17 @@
 -- A step of a turn before which waiting writes go to memory.
-use Rattle.std.proofs.Common.{◌≡◌, ℕ, ◌+◌, ◌<◌, Bool, cond, List, length, Option, Some, None, refl, sym, subst, ap, arith, ◌∙◌}
+use Rattle.std.proofs.Common.{◌≡◌, ℕ, Bool, cond, List, length, Option, sym, subst, ap, arith, ◌∙◌}
 use Rattle.std.specs.Prelude.{nat_le}
 use Rattle.address_space.specs.Slots.{slot_of}
-use Rattle.elf_image.specs.Layout.{ImageData}
 use Rattle.guest_state.specs.declared.virtual_state.Virtual.{Virtual}
 use Rattle.ir_syntax.specs.declared.block.Block.{Block}
 use Rattle.ir_syntax.specs.declared.request.Request.{Request}
 use Rattle.x86_model.specs.declared.want.Want.{Want}
 use Rattle.x86_model.specs.Want.{want}
 use Rattle.machine_model.specs.CaseData.{CaseData}
-use Rattle.machine_model.specs.Gated.{Both, Stand, stand_at}
+use Rattle.machine_model.specs.Gated.{Both, Stand}
 use Rattle.machine_model.specs.Ready.{HasGrown}
 use Rattle.machine_model.specs.Serial.{AtEvent, Turn, flush_some, flushed_before}
-use Rattle.machine_model.specs.State.{is_live, list_at}
+use Rattle.machine_model.specs.State.{list_at}
 use Rattle.hall_core.specs.Hall.{HallData, both}
 use Rattle.guest_parts.specs.Points.{Acts, point_at}
 use Rattle.guest_parts.specs.Requests.{IsWanted}

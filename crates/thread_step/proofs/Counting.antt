@@ -1,5 +1,5 @@
 -- How many steps of instructions entries make.
-use Rattle.std.proofs.Common.{◌≡◌, ℕ, zero, suc, ◌+◌, ◌-◌, ◌≤◌, Bool, true, false, List, [], ◌∷◌, ◌++◌, inl, inr, Option, Some, None, Result, Ok, Err, length, refl, sym, ap, ◌∙◌, subst, arith, ◌==◌, nat_le}
+use Rattle.std.proofs.Common.{◌≡◌, ℕ, zero, suc, ◌+◌, ◌-◌, ◌≤◌, Bool, true, false, List, [], ◌∷◌, ◌++◌, inl, inr, Some, Result, Ok, Err, length, refl, sym, ap, ◌∙◌, subst, arith, ◌==◌, nat_le}
 use Rattle.std.specs.Prelude.{All}
 use Rattle.std.proofs.lemmas.List.{append-nil, append_assoc}
 use Rattle.std.proofs.lemmas.List.Elements.{All-head, All-tail}
@@ -15,9 +15,9 @@ use Rattle.machine_model.specs.CaseData.{CaseData}
 use Rattle.machine_model.specs.Comes.{both_of, or_stay, walk_on}
 use Rattle.machine_model.specs.Gated.{Both, Stand, advance, begin, gated_steps, most_grown, rest_of, stand_at}
 use Rattle.machine_model.specs.Own.{IsAhead, IsWhole}
-use Rattle.machine_model.specs.Serial.{AtEvent, AtLimit, AtMiss, AtMost, GoesOn, Point, Reaches, Rule, Turn, act, after_miss, event, event_by, flush, flush_some, flushed_before, full_or, grow_all, grow_if, grow_reach, make, miss, told_waiting, ungrown, with_new}
+use Rattle.machine_model.specs.Serial.{AtEvent, AtLimit, AtMiss, AtMost, GoesOn, Point, Reaches, Rule, Turn, act, after_miss, event, event_by, flush, flush_some, flushed_before, full_or, grow_all, grow_if, grow_reach, make, told_waiting, ungrown, with_new}
 use Rattle.machine_model.specs.State.{Machine, list_at}
-use Rattle.machine_model.specs.Step.{asked_by, cpu_at, waits_at}
+use Rattle.machine_model.specs.Step.{asked_by, waits_at}
 use Rattle.machine_model.proofs.Comes.{both_more}
 use Rattle.machine_model.proofs.Own.{steps_private, whole_stays}
 use Rattle.machine_model.proofs.OwnKinds.{flush_own, flush_waits}
@@ -39,7 +39,7 @@ use Rattle.thread_step.specs.Own.{data_of, position_of}
 use Rattle.thread_step.specs.Stretched.{parts_for}
 use Rattle.thread_step.specs.Turned.{ActIs, StopsIn, rule_of}
 use Rattle.thread_step.proofs.Adding.{settle_free}
-use Rattle.thread_step.specs.Steps.{AddsFree, AddsMiss, IsFree, entry_steps, event_by as event_of, event_steps, instruction_steps, steps_from}
+use Rattle.thread_step.specs.Steps.{AddsFree, IsFree, entry_steps, event_by as event_of, event_steps, instruction_steps, steps_from}
 
 -- ---- journals
 

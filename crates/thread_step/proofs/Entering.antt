@@ -1,6 +1,5 @@
 -- From what an entry leaves of a guest to what a call of the shared state leaves of a turn.
-use Rattle.std.proofs.Common.{◌≡◌, ◌≢◌, ℕ, ◌+◌, ◌<◌, ◌≤◌, ◌^◌, Bool, true, false, List, [], ◌∷◌, ◌++◌, inl, inr, length, Option, Some, None, IsSome, slice_set, refl, sym, subst, ap, arith, ◌∙◌, ◌⊎◌}
-use Rattle.std.specs.Prelude.{option_and_then, ⊤}
+use Rattle.std.proofs.Common.{◌≡◌, ℕ, ◌<◌, true, false, [], ◌∷◌, ◌++◌, inl, Option, Some, None, IsSome, refl, sym, subst, ap, arith, ◌∙◌}
 use Rattle.std.proofs.lemmas.List.{get_or-set_other}
 use Rattle.std.proofs.lemmas.Grind.{get_or-set_at}
 use Rattle.std.proofs.lemmas.Option.{none-some, option_and_then_some, same_Some}
@@ -10,8 +9,7 @@ use Rattle.journal_pack.specs.declared.entry.Entry.{Entry}
 use Rattle.journal_pack.specs.declared.entry.Entry.TheVariants.{Ev, Tick, Wait}
 use Rattle.x86_model.specs.Want.{want}
 use Rattle.machine_model.specs.CaseData.{CaseData}
-use Rattle.machine_model.specs.Comes.{MayCome}
-use Rattle.machine_model.specs.Gated.{Both, IsAllowed, Latest, Other, Spot, Stand, advance, entered, gate_with, onward, spot_at, spot_last, spot_with, stand_at}
+use Rattle.machine_model.specs.Gated.{Both, IsAllowed, Other, Spot, Stand, advance, entered, gate_with, onward, spot_at, spot_last, spot_with, stand_at}
 use Rattle.machine_model.specs.Own.{IsAhead, IsWhole}
 use Rattle.machine_model.specs.Ready.{HasGrown}
 use Rattle.machine_model.specs.Serial.{Rule}
@@ -19,9 +17,9 @@ use Rattle.machine_model.specs.State.{is_live}
 use Rattle.machine_model.specs.Step.{core_with, cpu_at, slot_in}
 use Rattle.machine_model.proofs.Comes.{both_more}
 use Rattle.machine_model.proofs.Own.{made_of, steps_private}
-use Rattle.hall_core.specs.Hall.{Comes, HallData, Needs, NeedsAt, added, both, machine, mark_at}
+use Rattle.hall_core.specs.Hall.{Comes, HallData, NeedsAt, added, both, machine}
 use Rattle.hall_core.specs.Shared.{Need, need_of}
-use Rattle.guest_parts.specs.Guest.{GuestData, IsGoing, IsWith, LeavesEnded, LeavesWith}
+use Rattle.guest_parts.specs.Guest.{IsGoing, LeavesEnded, LeavesWith}
 use Rattle.guest_parts.specs.Points.{Acts, point_at, turn_of}
 use Rattle.thread_step.specs.declared.own.Own.{Own}
 use Rattle.thread_step.specs.Ages.{AreAges}

@@ -1,5 +1,5 @@
 -- The thread of a slot after entries of its own.
-use Rattle.std.proofs.Common.{◌≡◌, ℕ, ◌⊎◌, inl, inr, Bool, true, false, List, [], ◌∷◌, Some, None, refl, sym, subst, ap, ◌∙◌}
+use Rattle.std.proofs.Common.{◌≡◌, ℕ, ◌⊎◌, inl, inr, true, false, List, [], ◌∷◌, Some, None, sym, subst, ap, ◌∙◌}
 use Rattle.std.proofs.lemmas.List.Elements.{All-head, All-tail}
 use Rattle.address_space.specs.Slots.{slot_of}
 use Rattle.journal_pack.specs.declared.entry.Entry.{Entry}
@@ -8,7 +8,7 @@ use Rattle.lib_table.specs.declared.life.Life.TheVariants.{Ended}
 use Rattle.lib_table.specs.Library.{LibraryData, is_kept, is_running, life_at, live_number, thread_in as lives_in}
 use Rattle.lib_table.proofs.LifeLaws.{kept-next}
 use Rattle.machine_model.specs.CaseData.{CaseData}
-use Rattle.machine_model.specs.Gated.{Both, Leads, advance}
+use Rattle.machine_model.specs.Gated.{Both, Leads}
 use Rattle.machine_model.specs.Own.{IsWhole}
 use Rattle.machine_model.specs.State.{Machine, is_live, thread_in}
 use Rattle.machine_model.specs.Step.{lives}

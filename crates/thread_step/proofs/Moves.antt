@@ -1,7 +1,7 @@
 -- A guest along its thread: it begins blocks, and makes private steps.
-use Rattle.std.proofs.Common.{◌≡◌, ℕ, zero, suc, ◌+◌, ◌-◌, ◌<◌, ◌≤◌, Bool, true, false, List, ◌∷◌, [], inl, inr, drop, length, Option, Some, None, refl, sym, subst, ap, arith, ◌∙◌, ◌⊎◌}
-use Rattle.std.specs.Prelude.{MatchOption, slice_index, option_and_then}
-use Rattle.std.proofs.lemmas.Option.{option_and_then_some, same_Some}
+use Rattle.std.proofs.Common.{◌≡◌, ℕ, zero, suc, ◌+◌, ◌-◌, ◌≤◌, true, false, List, ◌∷◌, inl, inr, drop, length, Option, Some, refl, sym, subst, ap, arith, ◌∙◌}
+use Rattle.std.specs.Prelude.{MatchOption, option_and_then}
+use Rattle.std.proofs.lemmas.Option.{option_and_then_some}
 use Rattle.address_space.specs.Slots.{slot_of}
 use Rattle.elf_image.specs.Layout.{ImageData}
 use Rattle.guest_state.specs.declared.virtual_state.Virtual.{Virtual}
@@ -16,13 +16,11 @@ use Rattle.x86_model.specs.Want.{want}
 use Rattle.basic_blocks.specs.Reach.{is_among}
 use Rattle.machine_model.specs.CaseData.{CaseData}
 use Rattle.machine_model.specs.Gated.{Both, Stand, entered, gated_step, gated_steps, moved_on, stand_at}
-use Rattle.machine_model.specs.Own.{IsAhead}
 use Rattle.machine_model.specs.Serial.{is_missing}
 use Rattle.machine_model.specs.Step.{privately}
-use Rattle.guest_parts.specs.Guest.{IsGoing, IsWith}
 use Rattle.guest_parts.specs.Requests.{FollowsItsThread, IsWanted}
-use Rattle.guest_parts.specs.Running.{Asking, RunsIn, RunsOut}
-use Rattle.guest_parts.specs.Standing.{IsLiftedAt, StandsBetween, StandsIn, StandsInside, places_of}
+use Rattle.guest_parts.specs.Running.{Asking}
+use Rattle.guest_parts.specs.Standing.{IsLiftedAt, StandsBetween, StandsIn, StandsInside}
 use Rattle.guest_parts.proofs.Begins.{begins}
 use Rattle.guest_parts.proofs.Runs.{some_part}
 use Rattle.guest_parts.proofs.Turns.{not_missing}
@@ -30,7 +28,7 @@ use Rattle.thread_step.specs.declared.own.Own.{Own}
 use Rattle.thread_step.specs.declared.own.Position.{Position}
 use Rattle.thread_step.specs.declared.own.Position.TheVariants.{Between, Inside}
 use Rattle.thread_step.specs.Kept.{AreKept, IsKept, KeptData}
-use Rattle.thread_step.specs.Own.{Along, IsUnder, data_of, position_of}
+use Rattle.thread_step.specs.Own.{Along, IsUnder, position_of}
 use Rattle.thread_step.specs.Stretched.{AsksAt, Moved}
 
 abbrev Table : Type 0
@@ -113,9 +111,9 @@ module _ (c : CaseData) (b : Both) (t : ℕ) where
     later = omega (arith, h.later, g.later);
     below = elim g.below [
       | inl same ↦ elim h.below [
-          | inl even ↦ inl (same ∙ even)
-          | inr le ↦ inr (omega (arith, le, same))
-        ]
+        | inl even ↦ inl (same ∙ even)
+        | inr le ↦ inr (omega (arith, le, same))
+      ]
       | inr le ↦ inr le
     ];
     frames = g.frames ∙ h.frames;

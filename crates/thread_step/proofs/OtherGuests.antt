@@ -1,7 +1,7 @@
 -- Guests of other slots, after entries of a thread.
-use Rattle.std.proofs.Common.{◌≡◌, ◌≢◌, ℕ, ◌<◌, inl, inr, Bool, true, false, List, [], ◌∷◌, ◌++◌, Option, Some, None, refl, sym, subst, ap, ◌∙◌, ◌&&◌, not, length, ◌⊎◌}
+use Rattle.std.proofs.Common.{◌≡◌, ◌≢◌, ℕ, ◌<◌, inl, inr, Bool, true, false, List, [], ◌∷◌, Some, None, refl, sym, subst, ap, ◌∙◌, ◌&&◌, not, length, ◌⊎◌}
 use Rattle.std.specs.Prelude.{option_and_then}
-use Rattle.std.proofs.lemmas.Option.{none-some, same_Some}
+use Rattle.std.proofs.lemmas.Option.{none-some}
 use Rattle.address_space.specs.Slots.{slot_of}
 use Rattle.elf_image.specs.Layout.{ImageData}
 use Rattle.guest_state.specs.declared.virtual_state.Virtual.{Virtual}
@@ -9,21 +9,20 @@ use Rattle.ir_syntax.specs.declared.block.Block.{Block}
 use Rattle.journal_pack.specs.declared.entry.Entry.{Entry}
 use Rattle.lib_table.specs.declared.life.Life.{Life}
 use Rattle.lib_table.specs.declared.life.Life.TheVariants.{Ended, Joined, Live, Unborn}
-use Rattle.lib_table.specs.declared.slot.Birth.{Birth}
-use Rattle.lib_table.specs.Library.{LibraryData, birth, is_running, is_unborn, life_at}
+use Rattle.lib_table.specs.Library.{birth, is_running, is_unborn, life_at}
 use Rattle.basic_blocks.specs.Places.{is_code_place}
 use Rattle.basic_blocks.specs.Reach.{is_among}
 use Rattle.machine_model.specs.CaseData.{CaseData}
 use Rattle.machine_model.specs.Play.{walk}
 use Rattle.machine_model.specs.Gated.{Both, Leads, Spot, Stand, Within, advance, begin, gated_steps, is_between, spot_at, stand_at}
-use Rattle.machine_model.specs.Own.{IsWhole, frames_at, writes_at}
+use Rattle.machine_model.specs.Own.{IsWhole}
 use Rattle.machine_model.specs.Ready.{HasGrown}
 use Rattle.machine_model.specs.Serial.{is_missing}
 use Rattle.machine_model.specs.State.{Core, core_at, is_live, list_at, thread_in}
 use Rattle.machine_model.proofs.Gates.{grows, halfway, leads_same, steps_grow}
 use Rattle.machine_model.proofs.NamesRounds.{thread_at_slot}
 use Rattle.machine_model.proofs.Own.{whole_from}
-use Rattle.machine_laws.specs.Others.{AreOf, IsBorn, IsSame, Leaves}
+use Rattle.machine_laws.specs.Others.{IsBorn, IsSame}
 use Rattle.machine_laws.proofs.Leaving.{thread_law}
 use Rattle.machine_laws.proofs.Spans.{ended_after, joined_after, live_there}
 use Rattle.hall_core.specs.Hall.{HallData, both, machine}
@@ -31,7 +30,7 @@ use Rattle.guest_parts.specs.Guest.{IsWith}
 use Rattle.guest_parts.specs.Standing as standing
 use Rattle.guest_parts.specs.Standing.{StandsIn}
 use Rattle.thread_step.specs.declared.guest.Guest.{Guest}
-use Rattle.thread_step.specs.Guest.{HasNone, IsNewborn, IsReady, IsStanding, StandsWith, starting_core}
+use Rattle.thread_step.specs.Guest.{HasNone, IsNewborn, IsReady, StandsWith, starting_core}
 use Rattle.thread_step.specs.Own.{IsUnder, data_of}
 use Rattle.thread_step.specs.Kept.{AreKept}
 use Rattle.thread_step.specs.Steps.{Adds}
@@ -78,16 +77,16 @@ module _ (h new : HallData Block) (g : Guest) (case : new.case ≡ h.case) (more
 
   stands_same : (t : ℕ) (d : Stand) → IsWhole (both new) → (machine new).ending ≡ None → g.slot < 64 → thread_in (machine new) g.slot ≡ Some t → StandsWith h t g d → StandsWith new t g d
   stands_same t d whole going low lives s =
-    let there = thread_at_slot (machine new) g.slot t low lives in
-    record {
-      along = record {
-        going = record { whole = whole; going = going; live = there.1 };
-        with = subst (λ (c : CaseData). IsWith c (both new) t (data_of g.own) d) (sym case) (with_same t d there.0 s.along.with);
-        under = subst (λ (c : CaseData). IsUnder c.image g.own.at) (sym case) s.along.under;
-        kept = subst (λ (c : CaseData). AreKept c.image (both new).gate.grown g.table.items) (sym case) (kept_within h.case.image (both h).gate.grown (both new).gate.grown g.table.items more s.along.kept);
-      };
-      fresh = s.fresh;
-    }
+      let there = thread_at_slot (machine new) g.slot t low lives in
+      record {
+        along = record {
+          going = record { whole = whole; going = going; live = there.1 };
+          with = subst (λ (c : CaseData). IsWith c (both new) t (data_of g.own) d) (sym case) (with_same t d there.0 s.along.with);
+          under = subst (λ (c : CaseData). IsUnder c.image g.own.at) (sym case) s.along.under;
+          kept = subst (λ (c : CaseData). AreKept c.image (both new).gate.grown g.table.items) (sym case) (kept_within h.case.image (both h).gate.grown (both new).gate.grown g.table.items more s.along.kept);
+        };
+        fresh = s.fresh;
+      }
 
   new_same : IsNewborn h g.slot → IsNewborn new g.slot
   new_same n = record {
@@ -105,18 +104,18 @@ module _ (h new : HallData Block) (g : Guest) (case : new.case ≡ h.case) (more
 
   ready_same : IsWhole (both new) → (machine h).ending ≡ None → ((t : ℕ) → is_unborn (life_at (machine h).library t) ≡ false → is_unborn (life_at (machine new).library t) ≡ false) → IsReady h g → IsReady new g
   ready_same whole on stays r =
-    let there : (t : ℕ) → thread_in (machine new) g.slot ≡ Some t → thread_in (machine h) g.slot ≡ Some t = λ t lives. sym same.thread ∙ lives in
-    record {
-      stands = record {
-        low = r.stands.low;
-        begun = λ t going lives is. let s = r.stands.begun t on (there t lives) is in (s.0, stands_same t s.0 whole going r.stands.low lives s.1);
-        new = λ t going lives other. new_same (r.stands.new t on (there t lives) other);
-        told = λ going alone. r.stands.told on (none_same alone);
-        none = λ going alone. r.stands.none on (none_same alone);
-        born = λ t going is. stays t (r.stands.born t on is);
-      };
-      grown = λ t going lives. grown_same (r.grown t on (there t lives));
-    }
+      let there : (t : ℕ) → thread_in (machine new) g.slot ≡ Some t → thread_in (machine h) g.slot ≡ Some t = λ t lives. sym same.thread ∙ lives in
+      record {
+        stands = record {
+          low = r.stands.low;
+          begun = λ t going lives is. let s = r.stands.begun t on (there t lives) is in (s.0, stands_same t s.0 whole going r.stands.low lives s.1);
+          new = λ t going lives other. new_same (r.stands.new t on (there t lives) other);
+          told = λ going alone. r.stands.told on (none_same alone);
+          none = λ going alone. r.stands.none on (none_same alone);
+          born = λ t going is. stays t (r.stands.born t on is);
+        };
+        grown = λ t going lives. grown_same (r.grown t on (there t lives));
+      }
 
 -- ---- a slot in which a thread was born
 
@@ -138,24 +137,24 @@ module _ (h new : HallData Block) (g : Guest) (es : List Entry) (born : IsBorn (
   -- the guest didn't begin it
   not_begun : (t : ℕ) → thread_in (machine new) g.slot ≡ Some t → g.thread ≡ Some t → ⊥
   not_begun t lives is =
-    let there = thread_at_slot (machine new) g.slot t r.stands.low lives in
-    let was = life_was h.case h.journal es (both h) (both new) t (life_at (machine h).library t) refl leads then (ap (thread_in (machine h)) there.0 ∙ born.before) there.1 in
-    let no : true ≡ false = sym was ∙ r.stands.born t on is in cc
+      let there = thread_at_slot (machine new) g.slot t r.stands.low lives in
+      let was = life_was h.case h.journal es (both h) (both new) t (life_at (machine h).library t) refl leads then (ap (thread_in (machine h)) there.0 ∙ born.before) there.1 in
+      let no : true ≡ false = sym was ∙ r.stands.born t on is in cc
 
   ready_born : new.case ≡ h.case → ((t : ℕ) → is_unborn (life_at (machine h).library t) ≡ false → is_unborn (life_at (machine new).library t) ≡ false) → IsReady new g
   ready_born case stays =
-    let fresh : IsNewborn new g.slot = record { core = born.core ∙ ap (starting_core new.case g.slot) (sym born.birth); writes = born.writes; spot = born.spot } in
-    record {
-      stands = record {
-        low = r.stands.low;
-        begun = λ t going lives is. absurd (not_begun t lives is);
-        new = λ t going lives other. fresh;
-        told = λ going alone. r.stands.told on alone_before;
-        none = λ going alone. r.stands.none on alone_before;
-        born = λ t going is. stays t (r.stands.born t on is);
-      };
-      grown = λ t going lives. inl (ap (λ (x : Spot). x.latest) born.spot);
-    }
+      let fresh : IsNewborn new g.slot = record { core = born.core ∙ ap (starting_core new.case g.slot) (sym born.birth); writes = born.writes; spot = born.spot } in
+      record {
+        stands = record {
+          low = r.stands.low;
+          begun = λ t going lives is. absurd (not_begun t lives is);
+          new = λ t going lives other. fresh;
+          told = λ going alone. r.stands.told on alone_before;
+          none = λ going alone. r.stands.none on alone_before;
+          born = λ t going is. stays t (r.stands.born t on is);
+        };
+        grown = λ t going lives. inl (ap (λ (x : Spot). x.latest) born.spot);
+      }
 
 -- ---- after entries of a thread of another slot
 

@@ -1,8 +1,7 @@
 -- After a part that finishes its instruction.
-use Rattle.std.proofs.Common.{◌≡◌, ℕ, ◌+◌, Bool, true, false, List, refl, sym, subst, ap}
+use Rattle.std.proofs.Common.{◌≡◌, ℕ, ◌+◌, true, false, List, refl, sym, subst}
 use Rattle.std.specs.Prelude.{slice_index}
 use Rattle.elf_image.specs.Layout.{ImageData}
-use Rattle.machine_model.specs.Gated.{Stand}
 use Rattle.guest_parts.specs.Standing.{StandsAfter, has_more, places_of}
 use Rattle.thread_step.specs.declared.own.Own.{Own}
 use Rattle.thread_step.specs.declared.own.Position.TheVariants.{Between, Inside}

@@ -1,5 +1,5 @@
 -- The turn of a guest's slot.
-use Rattle.std.proofs.Common.{◌≡◌, ◌≢◌, ℕ, ◌<◌, ◌⊎◌, inl, inr, Bool, true, false, List, [], ◌++◌, length, slice_index_or, slice_set, length-set, Option, Some, None, refl, sym, subst, ap, arith, ◌∙◌}
+use Rattle.std.proofs.Common.{◌≡◌, ◌≢◌, ℕ, ◌<◌, ◌⊎◌, inl, inr, Bool, true, false, List, [], ◌++◌, slice_index_or, slice_set, length-set, Option, Some, None, refl, sym, subst, ap, arith, ◌∙◌}
 use Rattle.std.specs.Prelude.{option_and_then, IsSome, is_some}
 use Rattle.std.proofs.lemmas.Bool.{cases_eq}
 use Rattle.std.proofs.lemmas.List.{get_or-set_other, get_or-set_same}
@@ -43,7 +43,7 @@ use Rattle.thread_step.proofs.Lives.{LivesOrNone, lives_there, none_left, own_li
 
 begun_or_not : (o : Option ℕ) (t : ℕ) → (o ≡ Some t) ⊎ (o ≢ Some t)
 begun_or_not None t = inr (λ e. none-some t e)
-begun_or_not (Some u) t = elim (cases_eq u t) [ | inl e ↦ inl (ap Some e) | inr ne ↦ inr (λ e. ne (same_Some u t e)) ]
+begun_or_not (Some u) t = elim (cases_eq u t) [ inl e ↦ inl (ap Some e) | inr ne ↦ inr (λ e. ne (same_Some u t e)) ]
 
 -- a thread that lives in its slot is the only one there
 pub has_none : (h : HallData Block) (g : Guest) (t : ℕ) → thread_in (machine h) g.slot ≡ Some t → g.thread ≢ Some t → HasNone h g
@@ -167,33 +167,33 @@ module _ (new : HallData Block) (t : ℕ) (g : Guest) (slot : slot_of t ≡ g.sl
 
   gone_ready : thread_in (machine new) (slot_of t) ≡ None → is_unborn (life_at (machine new).library t) ≡ false → g.own.k ≡ 0 → g.own.ages ≡ [] → IsReady new g
   gone_ready none born told ages =
-    let no : (u : ℕ) → thread_in (machine new) g.slot ≡ Some u → ⊥ = λ u lives. none-some u (sym none ∙ ap (thread_in (machine new)) slot ∙ lives) in
-    record {
-      stands = record {
-        low = low;
-        begun = λ u going lives is. absurd (no u lives);
-        new = λ u going lives other. absurd (no u lives);
-        told = λ going alone. told;
-        none = λ going alone. ages;
-        born = λ u going is. was_born born u is;
-      };
-      grown = λ u going lives. absurd (no u lives);
-    }
+      let no : (u : ℕ) → thread_in (machine new) g.slot ≡ Some u → ⊥ = λ u lives. none-some u (sym none ∙ ap (thread_in (machine new)) slot ∙ lives) in
+      record {
+        stands = record {
+          low = low;
+          begun = λ u going lives is. absurd (no u lives);
+          new = λ u going lives other. absurd (no u lives);
+          told = λ going alone. told;
+          none = λ going alone. ages;
+          born = λ u going is. was_born born u is;
+        };
+        grown = λ u going lives. absurd (no u lives);
+      }
 
   ended_ready : IsSome (machine new).ending → IsReady new g
   ended_ready ended =
-    let no : (machine new).ending ≡ None → ⊥ = λ going. none_is (machine new).ending ended going in
-    record {
-      stands = record {
-        low = low;
-        begun = λ u going lives is. absurd (no going);
-        new = λ u going lives other. absurd (no going);
-        told = λ going alone. absurd (no going);
-        none = λ going alone. absurd (no going);
-        born = λ u going is. absurd (no going);
-      };
-      grown = λ u going lives. absurd (no going);
-    }
+      let no : (machine new).ending ≡ None → ⊥ = λ going. none_is (machine new).ending ended going in
+      record {
+        stands = record {
+          low = low;
+          begun = λ u going lives is. absurd (no going);
+          new = λ u going lives other. absurd (no going);
+          told = λ going alone. absurd (no going);
+          none = λ going alone. absurd (no going);
+          born = λ u going is. absurd (no going);
+        };
+        grown = λ u going lives. absurd (no going);
+      }
 
   ran_ready : (live : Bool) → is_live (machine new) t ≡ live → ((is_live (machine new) t ≡ true) → Ready new t g.own g.table.items (stand_at (both new) (slot_of t))) → LivesOrNone (both new) t → is_unborn (life_at (machine new).library t) ≡ false → g.own.k ≡ 0 → (is_live (machine new) t ≡ false → g.own.ages ≡ []) → IsReady new g
   ran_ready true e on one born told gone = ready_on (stand_at (both new) (slot_of t)) (on e)
@@ -201,8 +201,8 @@ module _ (new : HallData Block) (t : ℕ) (g : Guest) (slot : slot_of t ≡ g.sl
 
   pub left : (a : Turned) (h : HallData Block) (r : Rules) (own : Own) (d : Stand) → Leads h.case (begin h.case) h.journal (both h) → is_live (machine h) t ≡ true → TurnIs a h new t r own g.own g.table.items d → IsLeft a new g
   left Ran h r own d leads live q =
-    let x = turn_in new g.own.ages in
-    ran_ready (is_live (machine new) t) refl q.ready (turn_lives h t r own d x leads live q.turn) (turn_born h t r own d x leads live q.turn) q.told q.gone
+      let x = turn_in new g.own.ages in
+      ran_ready (is_live (machine new) t) refl q.ready (turn_lives h t r own d x leads live q.turn) (turn_born h t r own d x leads live q.turn) q.told q.gone
   left Waiting h r own d leads live q = ready_on (stand_at (both new) (slot_of t)) q.ready
   left Ended h r own d leads live q = ended_ready q.ended
   left Idle h r own d leads live q = absurd q
@@ -286,7 +286,7 @@ begins_by h new t r reach run g d at going lives told stands right begins next i
     let step : serial.turn_of h.case reach (serial_rules r) first g.slot (Some t) ≡ Some next = sym (ap (turn_unless h.case reach (serial_rules r) first g.slot) going ∙ ap (serial.turn_of h.case reach (serial_rules r) first g.slot) lives) ∙ from in
     option_and_then_some on (turn h.case reach (serial_rules r) t (point_of (both h) t) (serial.turn_in first g.slot)) next step (λ x a b.
     let here : turn h.case reach (serial_rules r) t (point_at g.own.k d) (turn_in h g.own.ages) ≡ Some x =
-          ap (λ k. turn h.case reach (serial_rules r) t (point_at k d) (turn_in h g.own.ages)) told ∙ ap (λ z. turn h.case reach (serial_rules r) t (point_at 0 z) (turn_in h g.own.ages)) stands ∙ ap (λ l. turn h.case reach (serial_rules r) t (point_of (both h) t) (turn_of (both h) h.journal l)) (sym at.ages) ∙ a in
+    ap (λ k. turn h.case reach (serial_rules r) t (point_at k d) (turn_in h g.own.ages)) told ∙ ap (λ z. turn h.case reach (serial_rules r) t (point_at 0 z) (turn_in h g.own.ages)) stands ∙ ap (λ l. turn h.case reach (serial_rules r) t (point_of (both h) t) (turn_of (both h) h.journal l)) (sym at.ages) ∙ a in
     let q = begins x (λ other also. ap (λ z. turn h.case z (serial_rules r) t (point_at g.own.k d) (turn_in h g.own.ages)) (same_reaches h.case.image other reach also right) ∙ here) in
     (q.0, ap (λ (z : Run). z.journal) (sym (same_Some (run_after first g.slot x) next b)) ∙ q.1))
 

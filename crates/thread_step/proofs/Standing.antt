@@ -1,19 +1,17 @@
 -- The part at which a guest is, whatever it is called.
-use Rattle.std.proofs.Common.{◌≡◌, ℕ, ◌+◌, ◌<◌, List, ◌∷◌, drop, length, Option, Some, None, IfSome, refl, sym, subst, ap, ◌∙◌}
+use Rattle.std.proofs.Common.{◌≡◌, ℕ, ◌<◌, List, ◌∷◌, drop, length, Option, IfSome, sym, subst, ◌∙◌}
 use Rattle.guest_state.specs.declared.virtual_state.Virtual.{Virtual}
 use Rattle.ir_meaning.specs.Ready.{Answers}
 use Rattle.ir_syntax.specs.declared.block.Block.{Block}
 use Rattle.ir_syntax.specs.declared.block.Part.{Part}
 use Rattle.ir_syntax.specs.declared.request.Request.{Request}
-use Rattle.machine_model.specs.CaseData.{CaseData}
-use Rattle.machine_model.specs.Gated.{Both, Stand}
+use Rattle.machine_model.specs.Gated.{Stand}
 use Rattle.hall_core.specs.Hall.{HallData, both}
 use Rattle.thread_step.specs.declared.own.Own.{Own}
 use Rattle.thread_step.specs.declared.own.Position.{Position}
 use Rattle.thread_step.specs.declared.own.Position.TheVariants.{Inside}
 use Rattle.thread_step.specs.Entered.{Asking, Table}
 use Rattle.thread_step.specs.Kept.{KeptData}
-use Rattle.thread_step.specs.Stretched.{AsksAt}
 use Rattle.thread_step.proofs.Moves.{stands_inside}
 
 same_kept : (x y : KeptData) (n m : ℕ) (p : Position) → p ≡ Inside x n → p ≡ Inside y m → x ≡ y

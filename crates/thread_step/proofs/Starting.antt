@@ -1,14 +1,13 @@
 -- A guest before its thread's first entry.
-use Rattle.std.proofs.Common.{◌≡◌, ◌≢◌, ℕ, zero, suc, ◌+◌, ◌-◌, ◌<◌, ◌≤◌, ◌^◌, ◌==◌, Bool, true, false, List, [], ◌∷◌, ◌++◌, inl, inr, length, replicate, Option, Some, None, slice_index_or, slice_set, refl, sym, subst, ap, arith, ◌∙◌}
+use Rattle.std.proofs.Common.{◌≡◌, ℕ, zero, suc, ◌-◌, ◌<◌, ◌^◌, List, [], ◌∷◌, ◌++◌, inl, length, replicate, Option, Some, None, slice_index_or, slice_set, refl, sym, subst, ap, arith, ◌∙◌}
 use Rattle.std.specs.Prelude.{slice_index}
 use Rattle.std.proofs.lemmas.List.{length-set}
-use Rattle.std.proofs.lemmas.Option.{none-some, same_Some}
+use Rattle.std.proofs.lemmas.Option.{none-some}
 use Rattle.address_space.specs.Slots.{slot_of}
 use Rattle.guest_map.specs.Entry.{entry_rsp}
 use Rattle.guest_state.specs.Virtual as virtual
 use Rattle.guest_state.specs.declared.virtual_state.Virtual.{Virtual}
 use Rattle.ir_syntax.specs.declared.block.Block.{Block}
-use Rattle.journal_pack.specs.declared.entry.Entry.{Entry}
 use Rattle.lib_table.specs.Library as library
 use Rattle.lib_table.specs.Library.{birth, live_number, new_slot, number_at, slot_at}
 use Rattle.lib_table.specs.declared.slot.Birth.{Birth}
@@ -20,20 +19,17 @@ use Rattle.x86_model.specs.declared.cpu.Cpu.{Cpu}
 use Rattle.machine_model.specs.CaseData.{CaseData}
 use Rattle.machine_model.specs.Comes.{both_of, walk_on}
 use Rattle.machine_model.specs.Gated.{Both, Leads, Spot, Stand, begin, gated_steps, no_spot, spot_at, stand_at}
-use Rattle.machine_model.specs.State.{Core, core_at, first_core, is_live, list_at, start, thread_in}
-use Rattle.machine_model.specs.Step.{born_core}
+use Rattle.machine_model.specs.State.{Core, core_at, list_at, start, thread_in}
 use Rattle.machine_model.proofs.NamesRounds.{thread_at_slot}
 use Rattle.machine_model.proofs.Own.{whole_from}
 use Rattle.address_space.specs.Addresses.{top}
 use Rattle.elf_image.specs.Layout.{ImageData}
-use Rattle.callbacks.specs.declared.Frame.{Frame}
 use Rattle.hall_core.specs.Hall.{HallData, both, machine}
-use Rattle.thread_step.specs.declared.guest.Guest.{Guest}
 use Rattle.thread_step.specs.declared.own.Own.{Own}
 use Rattle.thread_step.specs.declared.own.Position.TheVariants.{Between}
 use Rattle.thread_step.specs.Ages.{AreAges}
 use Rattle.thread_step.specs.Entered.{Table}
-use Rattle.thread_step.specs.Guest.{IsNewborn, IsReady, starting_core}
+use Rattle.thread_step.specs.Guest.{IsNewborn, starting_core}
 use Rattle.thread_step.specs.Kept.{AreKept, KeptData}
 use Rattle.thread_step.specs.Own.{IsUnder, position_of}
 use Rattle.thread_step.specs.Turned.{Ready}
@@ -82,8 +78,8 @@ first_agrees v c slot rsp b e none is low =
     let there : slice_set v.regs 4 rsp ≡ regs = ap (λ (z : Virtual). slice_set z.regs 4 rsp) e in
     let core : (starting_core c slot b).cpu ≡ record thread.start { regs = regs; rip = c.image.entry } = ap (λ z. (starting_core c slot z).cpu) none ∙ ap (λ z. record thread.start { regs = slice_set (replicate 16 0) 4 z; rip = c.image.entry }) (sym is) in
     subst (λ z. Agrees None (record v { regs = z }) (starting_core c slot b).cpu) (sym there)
-      (subst (λ z. Agrees None (record v { regs = regs }) z) (sym core)
-        (agrees_with v regs (record thread.start { regs = regs; rip = c.image.entry }) e refl (length-set (replicate 16 0) 4 rsp) (set_below (replicate 16 0) 4 rsp (2 ^ 64) low all_low)))
+    (subst (λ z. Agrees None (record v { regs = regs }) z) (sym core)
+    (agrees_with v regs (record thread.start { regs = regs; rip = c.image.entry }) e refl (length-set (replicate 16 0) 4 rsp) (set_below (replicate 16 0) 4 rsp (2 ^ 64) low all_low)))
 
 born_with : (v : Virtual) (c : CaseData) (slot rsp : ℕ) (o : Option Birth) (b : Birth) → v ≡ virtual.start → o ≡ Some b → rsp ≡ top slot - 8 → rsp < 2 ^ 64 → b.argument < 2 ^ 64 → Agrees None (record v { regs = slice_set (slice_set v.regs 7 b.argument) 4 rsp }) (starting_core c slot o).cpu
 unfolding virtual.start thread.start
@@ -93,8 +89,8 @@ born_with v c slot rsp o b e some is low small =
     let there : slice_set (slice_set v.regs 7 b.argument) 4 rsp ≡ regs = ap (λ (z : Virtual). slice_set (slice_set z.regs 7 b.argument) 4 rsp) e in
     let core : (starting_core c slot o).cpu ≡ record thread.start { regs = regs; rip = b.start } = ap (λ z. (starting_core c slot z).cpu) some ∙ ap (λ z. record thread.start { regs = slice_set one 4 z; rip = b.start }) (sym is) in
     subst (λ z. Agrees None (record v { regs = z }) (starting_core c slot o).cpu) (sym there)
-      (subst (λ z. Agrees None (record v { regs = regs }) z) (sym core)
-        (agrees_with v regs (record thread.start { regs = regs; rip = b.start }) e refl (length-set one 4 rsp ∙ length-set (replicate 16 0) 7 b.argument) (set_below one 4 rsp (2 ^ 64) low (set_below (replicate 16 0) 7 b.argument (2 ^ 64) small all_low))))
+    (subst (λ z. Agrees None (record v { regs = regs }) z) (sym core)
+    (agrees_with v regs (record thread.start { regs = regs; rip = b.start }) e refl (length-set one 4 rsp ∙ length-set (replicate 16 0) 7 b.argument) (set_below one 4 rsp (2 ^ 64) low (set_below (replicate 16 0) 7 b.argument (2 ^ 64) small all_low))))
 
 pub born_agrees : (v : Virtual) (c : CaseData) (slot rsp argument : ℕ) (o : Option Birth) (b : Birth) → v ≡ virtual.start → o ≡ Some b → rsp ≡ top slot - 8 → rsp < 2 ^ 64 → argument ≡ b.argument → argument < 2 ^ 64 → Agrees None (record v { regs = slice_set (slice_set v.regs 7 argument) 4 rsp }) (starting_core c slot o).cpu
 born_agrees v c slot rsp argument o b e some is low same small = subst (λ z. Agrees None (record v { regs = slice_set (slice_set v.regs 7 z) 4 rsp }) (starting_core c slot o).cpu) (sym same) (born_with v c slot rsp o b e some is low (omega (arith, same, small)))

@@ -1,5 +1,5 @@
 -- Where a guest stops after the block under way was run.
-use Rattle.std.proofs.Common.{◌≡◌, ℕ, ◌+◌, ◌-◌, ◌<◌, ◌≤◌, ◌≢◌, Bool, true, false, cond, List, [], Option, Some, None, Ok, Err, refl, sym, subst, ap, arith, ◌∙◌}
+use Rattle.std.proofs.Common.{◌≡◌, ℕ, ◌+◌, ◌-◌, ◌<◌, ◌≤◌, ◌≢◌, Bool, true, false, cond, [], Option, Some, None, Ok, Err, refl, sym, subst, ap, arith}
 use Rattle.std.specs.Prelude.{min, nat_le, ◌==◌, if◌then◌else◌, IsErr, Result}
 use Rattle.std.specs.declared.alloc.AllocError.{AllocError}
 use Rattle.std.proofs.lemmas.Bool.{eqb-false, eqb-true, leb-true, leb-false}
@@ -18,7 +18,7 @@ use Rattle.thread_step.specs.declared.stretch.Went.TheVariants as went
 use Rattle.thread_step.specs.Entered.{Table}
 use Rattle.thread_step.specs.Own.{Along, data_of, position_of}
 use Rattle.thread_step.proofs.Moves.{moves_on, stays}
-use Rattle.thread_step.specs.Stretched.{CameIs, HasRoom, IsAsked, Moved, OneIs, StretchIs, WentIs, WentWithin, parts_for, stop_of}
+use Rattle.thread_step.specs.Stretched.{CameIs, IsAsked, Moved, OneIs, StretchIs, WentIs, WentWithin, parts_for, stop_of}
 
 module _ (c : CaseData) (b : Both) (t : ℕ) (old new : Own) (table : Table) (d : Stand) (left : ℕ) (is : left ≡ c.limit - b.machine.steps) where
   at_most : (v : Bool) → nat_le left new.k ≡ v → new.k ≡ min left 4096 → WentIs went.Most c b t old new table d → CameIs (cond v came.Limit came.Most) c b t old new table d

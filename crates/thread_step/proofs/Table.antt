@@ -1,5 +1,5 @@
 -- The table of blocks at hand, and where the instruction of each part stands.
-use Rattle.std.proofs.Common.{◌≡◌, ◌≢◌, ℕ, zero, suc, ◌+◌, ◌<◌, ◌≤◌, Bool, true, false, cond, List, [], ◌∷◌, inl, inr, drop, length, ◌++◌, Option, Some, None, IfSome, slice_index_or, slice_set, refl, sym, subst, ap, arith, ◌∙◌, ◌⊎◌}
+use Rattle.std.proofs.Common.{◌≡◌, ℕ, zero, suc, ◌+◌, ◌<◌, ◌≤◌, Bool, true, false, cond, List, [], ◌∷◌, inl, inr, drop, length, ◌++◌, Option, Some, None, IfSome, slice_index_or, slice_set, refl, sym, subst, ap, arith, ◌∙◌, ◌⊎◌}
 use Rattle.std.proofs.lemmas.List.{append-nil, get_or-set_other, get_or_past, length-set}
 use Rattle.std.proofs.lemmas.Grind.{get_or-set_at}
 use Rattle.std.proofs.Math.ListN.{drop_of_length-le}
@@ -20,9 +20,9 @@ set_item : (table : List (Option KeptData)) (i j : ℕ) (o : Option KeptData) (x
 set_item table i j o x e =
     elim (cases_eq j i) [
       | inl same ↦ (elim (cases_lt i (length table)) [
-          | inl lt ↦ inl (sym (get_or-set_at table i j o None same lt) ∙ e)
-          | inr le ↦ absurd (none-some x (sym (get_or_past (slice_set table i o) j None (omega (arith, same, le, length-set table i o))) ∙ e))
-        ])
+        | inl lt ↦ inl (sym (get_or-set_at table i j o None same lt) ∙ e)
+        | inr le ↦ absurd (none-some x (sym (get_or_past (slice_set table i o) j None (omega (arith, same, le, length-set table i o))) ∙ e))
+      ])
       | inr other ↦ inr (sym (get_or-set_other table i j o None other) ∙ e)
     ]
 

@@ -1,5 +1,5 @@
 -- The entries that tell private steps, or end the run at the limit.
-use Rattle.std.proofs.Common.{◌≡◌, ℕ, ◌+◌, ◌<◌, ◌≤◌, false, ◌++◌, [], ◌∷◌, Some, refl, arith}
+use Rattle.std.proofs.Common.{◌≡◌, ℕ, ◌+◌, ◌≤◌, refl, arith}
 use Rattle.journal_pack.specs.declared.entry.Entry.TheVariants.{Over, Tick}
 use Rattle.ir_syntax.specs.declared.block.Block.{Block}
 use Rattle.machine_model.specs.Gated.{Stand}

@@ -1,6 +1,6 @@
 -- One entry of a turn, with the private steps before it.
-use Rattle.std.proofs.Common.{◌≡◌, ◌≢◌, ℕ, zero, suc, ◌+◌, ◌-◌, ◌<◌, ◌≤◌, Bool, true, false, List, [], ◌++◌, inl, inr, Option, Some, None, Ok, Err, refl, sym, subst, ap, arith, ◌∙◌, ◌⊎◌}
-use Rattle.std.specs.Prelude.{option_and_then, IsErr, IsSome, Result}
+use Rattle.std.proofs.Common.{◌≡◌, ◌≢◌, ℕ, suc, ◌-◌, ◌<◌, Bool, true, false, List, inl, inr, Option, Some, None, Ok, Err, refl, sym, subst, ap, arith, ◌∙◌}
+use Rattle.std.specs.Prelude.{IsErr, Result}
 use Rattle.std.specs.declared.alloc.AllocError.{AllocError}
 use Rattle.std.proofs.lemmas.Option.{none-some, option_and_then_some, same_Some}
 use Rattle.address_space.specs.Slots.{slot_of}
@@ -17,10 +17,9 @@ use Rattle.x86_model.specs.Want.{want}
 use Rattle.basic_blocks.specs.Places.{is_code_place}
 use Rattle.basic_blocks.specs.Reach.{is_among}
 use Rattle.machine_model.specs.CaseData.{CaseData}
-use Rattle.machine_model.specs.Gated.{Both, Stand, gated_steps, stand_at}
+use Rattle.machine_model.specs.Gated.{Both, Stand, gated_steps}
 use Rattle.machine_model.specs.Ready.{HasGrown}
-use Rattle.machine_model.specs.Serial.{AreReaches, AtEvent, AtLimit, AtMiss, AtMost, GoesOn, Point, Reaches, Rule, Turn, act, is_over, point_of, rule_at, stop_from, turn_from, unless_over}
-use Rattle.machine_model.specs.State.{is_live}
+use Rattle.machine_model.specs.Serial.{AtEvent, GoesOn, Point, Reaches, Rule, Turn, act, is_over, point_of, rule_at, stop_from, turn_from, unless_over}
 use Rattle.machine_model.specs.Step.{privately}
 use Rattle.hall_core.specs.Hall.{HallData, both, mark_at}
 use Rattle.guest_parts.specs.Points.{Acts, ComesTo, point_at, waiting_of}
@@ -36,8 +35,8 @@ use Rattle.thread_step.specs.declared.stretch.Came.TheVariants as came
 use Rattle.thread_step.specs.Ages.{AreAges}
 use Rattle.thread_step.specs.Entered.{AlongIn, Asking, CallIs, Entered, Partly, Table, Waited, turn_in}
 use Rattle.thread_step.specs.Own.{data_of, position_of}
-use Rattle.thread_step.specs.Stretched.{CameIs, Moved, StopsAt}
-use Rattle.thread_step.specs.Turned.{ActIs, Broke, EntryIs, OneEntry, Ready, Stayed, StopsIn, Went, rule_of}
+use Rattle.thread_step.specs.Stretched.{CameIs, Moved}
+use Rattle.thread_step.specs.Turned.{ActIs, Broke, EntryIs, Ready, Stayed, StopsIn, Went, rule_of}
 use Rattle.thread_step.specs.Steps.{Adds}
 use Rattle.thread_step.proofs.Adding.{adds_none, partly_adds}
 use Rattle.thread_step.proofs.Begins.{Begins, begins_same, begins_then, turn_from_begins}
@@ -92,9 +91,9 @@ no_move c b t own new table d e m same = same_Some d e (let n : new.k - own.k �
 pub comes : (c : CaseData) (b : Both) (t : ℕ) (own new : Own) (table : Table) (d e : Stand) (r : Rule) → Moved c b t own new table d e → r ≢ GoesOn → rule_at c b (point_at new.k e) ≡ r → ComesTo c b (point_at own.k d) (point_at new.k e) r
 comes c b t own new table d e r m halts rule = elim m.below [
   | inl same ↦ record {
-      first = ap (λ z. stop_from c b (4096 - own.k) (point_at own.k z)) (no_move c b t own new table d e m same) ∙ ap (λ k. stop_from c b (4096 - own.k) (point_at k e)) (sym same) ∙ stop_here c b (4096 - own.k) (point_at new.k e) r halts rule;
-      rule = rule;
-    }
+    first = ap (λ z. stop_from c b (4096 - own.k) (point_at own.k z)) (no_move c b t own new table d e m same) ∙ ap (λ k. stop_from c b (4096 - own.k) (point_at k e)) (sym same) ∙ stop_here c b (4096 - own.k) (point_at new.k e) r halts rule;
+    rule = rule;
+  }
   | inr le ↦ comes_to c b (new.k - own.k) own.k new.k d e r (omega (arith, m.later)) m.along.with.few le m.gated halts rule
 ]
 
@@ -220,5 +219,5 @@ entry_failed (Ok b) h new t own after left d is q = absurd (let no : false ≡ t
 entry_failed (Err e) h new t own after left d is q = q
 
 -- more room changes nothing
-pub along_held : (h held : HallData Block) (t : ℕ) (own : Own) (table : Table) (d : Stand) → held ≡ record h { spare = held.spare } → AlongIn h t own table d → AlongIn held t own table d
-along_held h held t own table d is a = subst (λ z. AlongIn z t own table d) (sym is) a
+pub along_held : (h more : HallData Block) (t : ℕ) (own : Own) (table : Table) (d : Stand) → more ≡ record h { spare = more.spare } → AlongIn h t own table d → AlongIn more t own table d
+along_held h more t own table d is a = subst (λ z. AlongIn z t own table d) (sym is) a

@@ -1,16 +1,15 @@
 -- A whole turn, entry by entry.
-use Rattle.std.proofs.Common.{◌≡◌, ◌≢◌, ℕ, zero, suc, ◌+◌, ◌-◌, ◌<◌, ◌≤◌, Bool, true, false, List, [], ◌∷◌, ◌++◌, Option, Some, None, Ok, Err, refl, sym, subst, ap, arith, ◌∙◌}
-use Rattle.std.specs.Prelude.{◌||◌, is_none, is_some, map, not, option_and_then, IsSome, Result}
-use Rattle.std.proofs.lemmas.Option.{none-some, option_and_then_some, same_Some}
+use Rattle.std.proofs.Common.{◌≡◌, ℕ, suc, ◌+◌, ◌-◌, ◌<◌, ◌≤◌, true, false, List, [], ◌∷◌, Option, Some, None, refl, sym, subst, ap, arith, ◌∙◌}
+use Rattle.std.specs.Prelude.{◌||◌, is_none, is_some, map, not, option_and_then, IsSome}
+use Rattle.std.proofs.lemmas.Option.{option_and_then_some, same_Some}
 use Rattle.address_space.specs.Slots.{slot_of}
 use Rattle.ir_syntax.specs.declared.block.Block.{Block}
-use Rattle.journal_pack.specs.declared.entry.Entry.{Entry}
 use Rattle.machine_model.specs.declared.ending.RunEnd.{RunEnd}
 use Rattle.machine_model.specs.CaseData.{CaseData}
 use Rattle.machine_model.specs.Gated.{Both, Stand, gated_steps, stand_at}
 use Rattle.machine_model.specs.Own.{IsAhead}
 use Rattle.machine_model.specs.Ready.{HasGrown}
-use Rattle.machine_model.specs.Serial.{AreReaches, Point, Reaches, Rule, Turn, aged, flush_old, is_over, point_of, settle, settled, turn, turn_from}
+use Rattle.machine_model.specs.Serial.{AreReaches, Point, Rule, Turn, aged, flush_old, is_over, point_of, settle, settled, turn, turn_from}
 use Rattle.machine_model.specs.State.{is_live}
 use Rattle.hall_core.specs.Hall.{HallData, both, mark_at}
 use Rattle.guest_parts.specs.Guest.{GuestData}
@@ -166,7 +165,7 @@ module _ (h now : HallData Block) (t : ℕ) (r : Rules) (own mid : Own) (table :
     along = q.along;
     fresh = q.fresh;
     begins = λ x is reach right. option_and_then_some (settle h.case t r.hold) (turn_from h.case reach t r.turn (point_at own.k d) start) x (is reach right) (λ y a b.
-      begins_then new.journal y.journal x.journal (q.begins reach (subst (λ (c : CaseData). AreReaches c.image reach) (sym w.case) right) (r.turn - (i + 1)) y (subst (λ c. turn_from c reach t (suc (r.turn - (i + 1))) (point_at mid.k e) (turn_in now mid.ages) ≡ Some y) (sym w.case) (sym (on_now reach right) ∙ a))) (settle_begins h.case t r.hold y x b));
+        begins_then new.journal y.journal x.journal (q.begins reach (subst (λ (c : CaseData). AreReaches c.image reach) (sym w.case) right) (r.turn - (i + 1)) y (subst (λ c. turn_from c reach t (suc (r.turn - (i + 1))) (point_at mid.k e) (turn_in now mid.ages) ≡ Some y) (sym w.case) (sym (on_now reach right) ∙ a))) (settle_begins h.case t r.hold y x b));
     adds = adds_then t h.journal now.journal new.journal w.adds q.adds;
     marks = λ s ne. q.marks s ne ∙ w.marks s ne;
   }
@@ -202,7 +201,7 @@ module _ (h now : HallData Block) (t : ℕ) (r : Rules) (own mid : Own) (table :
     along = subst (λ z. AlongIn z t mid table e) (sym is) w.ready.along;
     fresh = w.ready.fresh;
     begins = λ x turns reach right. option_and_then_some (settle h.case t r.hold) (turn_from h.case reach t r.turn (point_at own.k d) first) x (turns reach right) (λ y a b.
-      subst (λ (z : HallData Block). Begins z.journal x.journal) (sym is) (begins_then now.journal y.journal x.journal (turn_from_begins h.case reach t (r.turn - i) (point_at mid.k e) (turn_in now mid.ages) y (sym (w.on reach right) ∙ a)) (settle_begins h.case t r.hold y x b)));
+        subst (λ (z : HallData Block). Begins z.journal x.journal) (sym is) (begins_then now.journal y.journal x.journal (turn_from_begins h.case reach t (r.turn - i) (point_at mid.k e) (turn_in now mid.ages) y (sym (w.on reach right) ∙ a)) (settle_begins h.case t r.hold y x b)));
     adds = subst (λ (z : HallData Block). Adds t h.journal z.journal) (sym is) w.adds;
     marks = λ s ne. ap (λ (z : HallData Block). mark_at z s) is ∙ w.marks s ne;
   }

@@ -1,6 +1,5 @@
 -- What an answer of the library makes of a guest that asked.
 use Rattle.std.specs.Prelude.{ℕ, ⊤}
-use Rattle.lib_table.specs.declared.answer.Called.{Called}
 use Rattle.lib_table.specs.declared.answer.Stepped.{Stepped}
 use Rattle.lib_table.specs.declared.answer.Stepped.TheVariants.{Bad, Done, Waits}
 use Rattle.lib_table.specs.declared.ask.Asked.{Asked}

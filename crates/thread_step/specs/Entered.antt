@@ -10,8 +10,7 @@ use Rattle.ir_syntax.specs.declared.request.Request.TheVariants as ask
 use Rattle.ir_syntax.specs.declared.width.Width.{Width as IrWidth}
 use Rattle.ir_syntax.specs.declared.width.Width.TheVariants as ir_size
 use Rattle.journal_pack.specs.declared.entry.Entry.{Entry}
-use Rattle.machine_model.specs.CaseData.{CaseData}
-use Rattle.machine_model.specs.Gated.{Both, Stand, stand_at}
+use Rattle.machine_model.specs.Gated.{Stand, stand_at}
 use Rattle.machine_model.specs.Ready.{HasGrown}
 use Rattle.machine_model.specs.Serial.{AreReaches, AtEvent, AtMiss, Reaches, Rule, Turn, act, flush, flush_some, settle}
 use Rattle.machine_model.specs.State.{is_live}

@@ -1,10 +1,9 @@
 -- A thread's turn.
-use Rattle.std.specs.Prelude.{◌≡◌, ◌<◌, ◌≤◌, ℕ, Bool, true, false, List, [], ◌++◌, Option, Some, None, IsSome, Result, Ok, Err, suc}
+use Rattle.std.specs.Prelude.{◌≡◌, ◌<◌, ◌≤◌, ℕ, Bool, true, false, List, [], ◌++◌, Some, None, IsSome, Result, Ok, Err, suc}
 use Rattle.std.specs.declared.alloc.AllocError.{AllocError}
 use Rattle.address_space.specs.Slots.{slot_of}
 use Rattle.guest_state.specs.declared.virtual_state.Virtual.{Virtual}
 use Rattle.ir_syntax.specs.declared.block.Block.{Block}
-use Rattle.ir_syntax.specs.declared.request.Request.{Request}
 use Rattle.journal_pack.specs.declared.entry.Entry.{Entry}
 use Rattle.machine_model.specs.CaseData.{CaseData}
 use Rattle.machine_model.specs.Gated.{Stand, stand_at}

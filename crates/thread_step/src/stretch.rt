@@ -64,12 +64,7 @@ pub(crate) fn leave(own: &mut Own, table: &mut Vec<Option<Kept>>, to: u64)
 }
 
 // Runs the block under way, if there is one.
-fn go<N: Engine>(
-    own: &mut Own,
-    table: &mut Vec<Option<Kept>>,
-    most: u32,
-    engine: &mut N,
-) -> Went
+fn go<N: Engine>(own: &mut Own, table: &mut Vec<Option<Kept>>, most: u32, engine: &mut N) -> Went
     requires along { (c : CaseData) × (b : Both) × (t : ℕ) × (d : Stand) × Along c b t own.old table.old.items d }
     requires few { own.old.k ≤ most }
     ensures went { (c : CaseData) (b : Both) (t : ℕ) (d : Stand) → Along c b t own.old table.old.items d → b.machine.steps + most ≤ c.limit → most ≤ 4096 → WentIs result c b t own.old own.new table.new.items d }

@@ -31,7 +31,13 @@ use std::alloc::{AllocError, Global};
 const ROOM: u64 = 4096;
 
 // The part under way asked for this, which is done.
-fn ask(own: &mut Own, table: &mut Vec<Option<Kept>>, hall: &mut Hall<Block>, t: u32, request: Request)
+fn ask(
+    own: &mut Own,
+    table: &mut Vec<Option<Kept>>,
+    hall: &mut Hall<Block>,
+    t: u32,
+    request: Request,
+)
     requires room { length own.old.ages + 1 < hall.old.spare }
     requires asks { (v : Virtual) × (d : Stand) × Asking hall.old t own.old table.old.items v d request }
     ensures { (v : Virtual) (d : Stand) → Asking hall.old t own.old table.old.items v d request → Entered hall.old hall.new t own.old own.new table.new.items d AtEvent }

@@ -1,8 +1,8 @@
-use Rattle.std.proofs.Common.{◌≡◌, None, List, ◌∷◌, ◌<◌, ◌^◌, IfSome, ap, drop, refl, sym, subst, ◌∙◌}
+use Rattle.std.proofs.Common.{◌<◌, ◌^◌, IfSome, ap, sym, subst, ◌∙◌}
 use Rattle.tso_memory.specs.Buffer.{size_of}
 use Rattle.hall_core.specs.Hall.{NeedsAt, machine}
-use Rattle.hall_core.specs.Shared.{Loads, Locks, loaded_value, locked_value, shared_of}
-use Rattle.machine_model.specs.Conversions.{request_change_of, request_width_of}
+use Rattle.hall_core.specs.Shared.{Locks, locked_value, shared_of}
+use Rattle.machine_model.specs.Conversions.{request_width_of}
 use Rattle.machine_model.specs.Serial.{AtEvent}
 use Rattle.ir_syntax.specs.declared.request.Request.TheVariants as ask
 use Rattle.thread_step.specs.Entered.{Entered}

@@ -1,9 +1,7 @@
-use Rattle.std.proofs.Common.{◌≡◌, refl, sym, subst, ap, ◌∙◌}
-use Rattle.hall_core.specs.Hall.{Needs, NeedsAt}
-use Rattle.hall_core.specs.Shared.{Fails, Stores}
+use Rattle.std.proofs.Common.{sym, subst}
+use Rattle.hall_core.specs.Hall.{NeedsAt}
+use Rattle.hall_core.specs.Shared.{Fails}
 use Rattle.ir_syntax.specs.declared.request.Request.TheVariants as ask
-use Rattle.machine_model.specs.Serial.{AtEvent}
-use Rattle.thread_step.specs.Entered.{Entered, Passed}
 use Rattle.thread_step.proofs.Accesses.{bad_entered, bad_may, bad_need, rip_is}
 use Rattle.thread_step.proofs.Standing.{inside_part}
 use Rattle.thread_step.proofs.access.fail.Goals as goal

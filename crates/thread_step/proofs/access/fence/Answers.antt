@@ -1,8 +1,7 @@
-use Rattle.std.proofs.Common.{◌≡◌, ℕ, List, length, refl, sym, subst, ap, arith, ◌∙◌}
+use Rattle.std.proofs.Common.{◌≡◌, length, refl, sym, subst, ap, ◌∙◌}
 use Rattle.address_space.specs.Slots.{slot_of}
 use Rattle.ir_syntax.specs.declared.request.Request.TheVariants as ask
 use Rattle.x86_model.specs.declared.want.Want.TheVariants as wants
-use Rattle.guest_parts.specs.Guest.{IsWith}
 use Rattle.thread_step.specs.declared.own.Own.{Own}
 use Rattle.machine_model.specs.State.{list_at}
 use Rattle.hall_core.specs.Hall.{both}

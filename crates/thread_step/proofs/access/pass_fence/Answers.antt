@@ -1,9 +1,6 @@
-use Rattle.std.proofs.Common.{◌≡◌, refl, sym, subst, ap, ◌∙◌}
-use Rattle.hall_core.specs.Hall.{Needs, NeedsAt}
-use Rattle.hall_core.specs.Shared.{Fails, Stores}
+use Rattle.std.proofs.Common.{subst}
 use Rattle.ir_syntax.specs.declared.request.Request.TheVariants as ask
-use Rattle.machine_model.specs.Serial.{AtEvent}
-use Rattle.thread_step.specs.Entered.{Entered, Passed}
+use Rattle.thread_step.specs.Entered.{Passed}
 use Rattle.thread_step.proofs.Accesses.{fence_entered, fence_may, fence_need}
 use Rattle.thread_step.proofs.Standing.{inside_part}
 use Rattle.thread_step.proofs.access.pass_fence.Goals as goal

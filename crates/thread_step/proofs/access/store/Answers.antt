@@ -1,12 +1,9 @@
-use Rattle.std.proofs.Common.{◌≡◌, ◌<◌, ℕ, List, length, refl, sym, subst, ap, arith, ◌∙◌}
+use Rattle.std.proofs.Common.{◌<◌, ℕ, length, refl, sym, arith}
 use Rattle.address_space.specs.Slots.{slot_of}
-use Rattle.ir_syntax.specs.declared.request.Request.TheVariants as ask
 use Rattle.x86_model.specs.declared.want.Want.TheVariants as wants
-use Rattle.guest_parts.specs.Guest.{IsWith}
 use Rattle.thread_step.specs.declared.own.Own.{Own}
 use Rattle.machine_model.specs.State.{list_at}
 use Rattle.hall_core.specs.Hall.{both}
-use Rattle.thread_step.specs.Ages.{AreAges}
 use Rattle.thread_step.specs.Own.{data_of}
 use Rattle.thread_step.proofs.Accesses.{few_writes, storing}
 use Rattle.thread_step.proofs.Composed.{room_count}

@@ -1,9 +1,7 @@
-use Rattle.std.proofs.Common.{◌≡◌, ℕ, List, refl, sym, subst, ap, ◌∙◌}
-use Rattle.hall_core.specs.Hall.{Needs, NeedsAt}
-use Rattle.hall_core.specs.Shared.{Fails, Stores}
-use Rattle.ir_syntax.specs.declared.request.Request.TheVariants as ask
-use Rattle.machine_model.specs.Serial.{AtEvent}
-use Rattle.thread_step.specs.Entered.{Entered, Passed}
+use Rattle.std.proofs.Common.{ℕ, List, sym, subst}
+use Rattle.hall_core.specs.Hall.{NeedsAt}
+use Rattle.hall_core.specs.Shared.{Stores}
+use Rattle.thread_step.specs.Entered.{Passed}
 use Rattle.thread_step.proofs.Accesses.{rip_is, store_entered, store_may, store_need, storing}
 use Rattle.thread_step.proofs.Standing.{inside_part}
 use Rattle.thread_step.proofs.access.write.Goals as goal

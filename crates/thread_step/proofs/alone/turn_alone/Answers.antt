@@ -1,8 +1,6 @@
-use Rattle.std.proofs.Common.{◌≡◌, ◌≢◌, None, Some, refl, sym, subst, ap, ◌∙◌}
-use Rattle.std.specs.Prelude.{IsSome, is_some}
-use Rattle.address_space.specs.Slots.{slot_of}
-use Rattle.machine_model.specs.Gated.{stand_at}
-use Rattle.hall_core.specs.Hall.{both, machine, mark_at}
+use Rattle.std.proofs.Common.{sym, subst, ◌∙◌}
+use Rattle.std.specs.Prelude.{IsSome}
+use Rattle.hall_core.specs.Hall.{machine, mark_at}
 use Rattle.thread_step.proofs.SlotTurn.{case_after, ended_turn, idle_turn, in_run, its_slot, its_stand, marks_after, none_ending, ran_told, some_ending, stands_first, waiting_marked, waiting_told}
 use Rattle.thread_step.proofs.alone.turn_alone.Goals as goal
 

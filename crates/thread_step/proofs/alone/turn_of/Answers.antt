@@ -1,4 +1,4 @@
-use Rattle.std.proofs.Common.{◌≡◌, ◌≢◌, refl, sym, subst, arith, ◌∙◌}
+use Rattle.std.proofs.Common.{sym, subst, arith, ◌∙◌}
 use Rattle.address_space.specs.Slots.{slot_of}
 use Rattle.machine_model.specs.Gated.{Leads, begin}
 use Rattle.hall_core.specs.Hall.{both}

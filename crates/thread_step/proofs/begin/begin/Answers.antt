@@ -1,12 +1,7 @@
-use Rattle.std.proofs.Common.{rules, ◌≡◌, ℕ, None, IfOk, IfSome, MatchOption, true, false, ◌+◌, ◌-◌, ◌*◌, ◌<◌, ◌≤◌, length, ◌/◌, ◌%◌, Bool, nat_eq, nat_lt, List, [], ◌∷◌, ◌++◌, slice_index_or, slice_set, bit_and, bit_or, Fits, w8, w32, w64, Bor, MutBor}
-use Rattle.basic_blocks.specs.Places.{is_code_place}
+use Rattle.std.proofs.Common.{◌≡◌, true, false}
 use Rattle.basic_blocks.specs.Reach.{is_among}
-use Rattle.machine_model.specs.Gated.{Stand}
-use Rattle.hall_core.specs.Hall.{both, grown}
-use Rattle.thread_step.specs.declared.own.Position.TheVariants as at
-use Rattle.thread_step.specs.Own.{Along}
-use Rattle.thread_step.specs.Stretched.{BegunIs, IsAsked}
-use Rattle.std.proofs.Common.{true, false, sym, subst, ◌∙◌}
+use Rattle.hall_core.specs.Hall.{both}
+use Rattle.std.proofs.Common.{true, false, subst}
 use Rattle.basic_blocks.specs.Reach.{is_among}
 use Rattle.thread_step.proofs.Moves.{along_inside, along_table, match_some}
 use Rattle.thread_step.proofs.begin.begin.Goals.{in-Between-1, in-Between-2, in-Inside-1, in-Inside-2}

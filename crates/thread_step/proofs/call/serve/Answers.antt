@@ -1,13 +1,9 @@
-use Rattle.std.proofs.Common.{◌≡◌, Bool, false, true, Result, Err, sym, subst, ap, ◌∙◌, refl}
-use Rattle.std.specs.declared.alloc.AllocError.{AllocError}
-use Rattle.callbacks.specs.declared.Frame.{Frame}
+use Rattle.std.proofs.Common.{◌≡◌, false, sym, subst, ap, ◌∙◌, refl}
 use Rattle.lib_table.specs.declared.ask.Ask.{Ask}
 use Rattle.lib_table.specs.Row.{waits as row_waits}
 use Rattle.hall_core.specs.Hall.{NeedsAt, both, machine}
 use Rattle.hall_core.specs.Shared.{Asks}
-use Rattle.guest_parts.specs.Guest.{GuestData}
 use Rattle.thread_step.specs.Entered.{CallIs}
-use Rattle.lib_table.specs.declared.answer.Stepped.TheVariants as stepped
 use Rattle.thread_step.specs.Called.{at_after, data_after}
 use Rattle.thread_step.specs.declared.stretch.Came.TheVariants as came
 use Rattle.thread_step.specs.Own.{data_of}
@@ -39,7 +35,6 @@ returns-in-Err c = λ table d along stops.
     let after = record own { frames = c.pop-held.new.self } in
     let same : c.pop-held.new.self.items ≡ own.frames.items = c.pop-held.ensures.rest ∙ take_last _ c.hold.new.frames.items own.frames.items held.0 c.hold.new.frames.ok.0 held.1 in
     not_asked h c.args.t c.args.a c.args.what own table d along stops c.call.new.self after c.in-Err.ensures.err (ap (λ z. record (data_of own) { frames = z }) same) refl
-
 
 pub wait-requires-clause-asks : goal.wait-requires-clause-asks
 wait-requires-clause-asks c =

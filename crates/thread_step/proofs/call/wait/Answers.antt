@@ -3,8 +3,6 @@ use Rattle.lib_table.specs.declared.ask.Ask.{Ask}
 use Rattle.lib_table.specs.Row.{waits as row_waits}
 use Rattle.hall_core.specs.Hall.{Needs, machine}
 use Rattle.hall_core.specs.Shared.{Asks}
-use Rattle.guest_parts.specs.Calls.{request_of}
-use Rattle.thread_step.specs.Own.{data_of}
 use Rattle.thread_step.proofs.Calling.{call_needs, wait_may, waited}
 use Rattle.thread_step.proofs.call.wait.Goals as goal
 

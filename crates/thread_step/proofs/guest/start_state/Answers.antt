@@ -1,4 +1,4 @@
-use Rattle.std.proofs.Common.{sym, ap, arith, ◌∙◌, ◌-◌, ◌<◌, ◌^◌}
+use Rattle.std.proofs.Common.{sym, ap, arith, ◌∙◌, ◌-◌}
 use Rattle.thread_step.proofs.Starting.{born_agrees, first_agrees}
 use Rattle.thread_step.proofs.guest.start_state.Goals as goal
 

@@ -1,4 +1,4 @@
-use Rattle.std.proofs.Common.{length, ap, arith, ◌∙◌, drop}
+use Rattle.std.proofs.Common.{length, ap, arith, drop}
 use Rattle.guest_parts.specs.Standing.{places_of}
 use Rattle.thread_step.proofs.Table.{nothing_more}
 use Rattle.thread_step.proofs.kept.places_of.Goals as goal

@@ -1,17 +1,7 @@
-use Rattle.std.proofs.Common.{rules, ◌≡◌, ◌≤◌, ◌<◌, ◌+◌, ◌-◌, ◌==◌, ℕ, List, Ok, if◌then◌else◌, length, min, slice_index, ◌*◌, ◌/◌, ◌%◌, Bool, true, false, nat_eq, nat_lt, [], ◌∷◌, ◌++◌, slice_index_or, slice_set, bit_and, bit_or, Fits, w8, w32, w64, Bor, MutBor}
-use Rattle.elf_image.specs.Layout.{ImageData}
-use Rattle.machine_model.specs.CaseData.{CaseData}
-use Rattle.machine_model.specs.Gated.{Both, Stand}
-use Rattle.hall_core.specs.Hall.{both, machine}
-use Rattle.guest_parts.specs.Running.{Rises}
-use Rattle.guest_parts.specs.Standing.{places_of}
-use Rattle.thread_step.specs.declared.own.Position.TheVariants as at
-use Rattle.thread_step.specs.Kept.{AreKept, IsKept, KeptData}
-use Rattle.thread_step.specs.Own.{Along}
-use Rattle.thread_step.specs.declared.stretch.Came.TheVariants as came
-use Rattle.thread_step.specs.Stretched.{OneIs, Progresses, StretchIs, WentFurther, WentIs, WentWithin, parts_by, parts_for, parts_of, stop_of}
-use Rattle.std.proofs.Common.{refl, sym, ap, subst, arith, ◌∙◌}
-use Rattle.thread_step.specs.declared.begin.Begun.TheVariants as begun
+use Rattle.std.proofs.Common.{Ok}
+use Rattle.hall_core.specs.Hall.{both}
+use Rattle.thread_step.specs.Stretched.{OneIs}
+use Rattle.std.proofs.Common.{refl, ap, subst, arith, ◌∙◌}
 use Rattle.thread_step.specs.Stretched.{BegunIs}
 use Rattle.thread_step.proofs.Moves.{stays}
 use Rattle.thread_step.proofs.Stops.{begun_moved, call_came, one_failed, one_from}

@@ -1,16 +1,8 @@
-use Rattle.std.proofs.Common.{rules, ◌≡◌, ◌≤◌, ◌<◌, ◌+◌, ◌-◌, ◌==◌, ℕ, List, if◌then◌else◌, length, min, slice_index, ◌*◌, ◌/◌, ◌%◌, Bool, true, false, nat_eq, nat_lt, [], ◌∷◌, ◌++◌, slice_index_or, slice_set, bit_and, bit_or, Fits, w8, w32, w64, Bor, MutBor}
-use Rattle.elf_image.specs.Layout.{ImageData}
-use Rattle.machine_model.specs.CaseData.{CaseData}
-use Rattle.machine_model.specs.Gated.{Both, Stand}
-use Rattle.hall_core.specs.Hall.{both, machine}
+use Rattle.std.proofs.Common.{◌-◌}
+use Rattle.hall_core.specs.Hall.{both}
 use Rattle.guest_parts.specs.Running.{Rises}
-use Rattle.guest_parts.specs.Standing.{places_of}
-use Rattle.thread_step.specs.declared.own.Position.TheVariants as at
-use Rattle.thread_step.specs.Kept.{AreKept, IsKept, KeptData}
-use Rattle.thread_step.specs.Own.{Along}
-use Rattle.thread_step.specs.declared.stretch.Came.TheVariants as came
-use Rattle.thread_step.specs.Stretched.{OneIs, StretchIs, WentIs, WentWithin, parts_by, parts_for, parts_of, stop_of}
-use Rattle.std.proofs.Common.{None, Ok, refl, sym, subst, arith, ◌∙◌}
+use Rattle.thread_step.specs.Stretched.{OneIs, parts_for, parts_of}
+use Rattle.std.proofs.Common.{None, Ok, refl, subst, arith}
 use Rattle.guest_parts.proofs.Runs.{rises_none, rises_on}
 use Rattle.thread_step.specs.Stretched.{OneIs, Progresses, parts_of}
 use Rattle.thread_step.proofs.Moves.{stays}
@@ -64,8 +56,8 @@ loop-came-smaller g c = let p = went_on g c in omega (arith, p.0, p.1)
 pub loop-came-preserved : goal.loop-came-preserved
 loop-came-preserved g c = record {
   moved = λ t d h.
-    let m = c.loop-came.invariant.moved t d h in
-    moved_more c.args.hall.now.case (both c.args.hall.now) t c.args.own.now c.loop-came.own c.one.new.own c.loop-came.table.items c.one.new.table.items d m.0 m.1 (subst (λ z. OneIs (Ok z) c.args.hall.now.case (both c.args.hall.now) t c.loop-came.own c.one.new.own c.one.new.table.items m.0) c.in_default.is (c.in_ok-came.ensures.one t m.0 m.1.along));
+      let m = c.loop-came.invariant.moved t d h in
+      moved_more c.args.hall.now.case (both c.args.hall.now) t c.args.own.now c.loop-came.own c.one.new.own c.loop-came.table.items c.one.new.table.items d m.0 m.1 (subst (λ z. OneIs (Ok z) c.args.hall.now.case (both c.args.hall.now) t c.loop-came.own c.one.new.own c.one.new.table.items m.0) c.in_default.is (c.in_ok-came.ensures.one t m.0 m.1.along));
   left = c.loop-came.invariant.left;
   later = omega (arith, c.loop-came.invariant.later, c.one.ensures.later);
   count = rises_on _ _ _ (c.loop-came.own.k - c.args.own.now.k) (c.one.new.own.k - c.loop-came.own.k) _ (omega (arith, c.loop-came.invariant.later, c.one.ensures.later)) c.loop-came.invariant.count (subst (λ z. Rises (g.N.Engine.count c.loop-came.engine) (g.N.Engine.count c.one.new.engine) (parts_of (Ok z) (c.one.new.own.k - c.loop-came.own.k))) c.in_default.is c.in_ok-came.ensures.count);

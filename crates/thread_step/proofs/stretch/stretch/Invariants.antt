@@ -1,4 +1,4 @@
-use Rattle.std.proofs.Common.{◌≡◌, ◌≤◌, ◌-◌, ◌+◌, ◌<◌, ℕ}
+use Rattle.std.proofs.Common.{◌≡◌, ◌≤◌, ◌-◌, ℕ}
 use Rattle.machine_model.specs.Gated.{Stand}
 use Rattle.hall_core.specs.Hall.{both, machine}
 use Rattle.guest_parts.specs.Running.{Rises}

@@ -1,18 +1,8 @@
-use Rattle.std.proofs.Common.{rules, ◌≡◌, ◌+◌, ◌-◌, ◌<◌, length, ℕ, ◌*◌, ◌≤◌, ◌/◌, ◌%◌, Bool, true, false, nat_eq, nat_lt, List, [], ◌∷◌, ◌++◌, slice_index_or, slice_set, bit_and, bit_or, Fits, w8, w32, w64, Bor, MutBor}
-use Rattle.address_space.specs.Slots.{slot_of}
-use Rattle.guest_state.specs.declared.virtual_state.Virtual.{Virtual}
-use Rattle.machine_model.specs.Gated.{Stand}
-use Rattle.machine_model.specs.Ready.{HasGrown}
-use Rattle.machine_model.specs.Serial.{AtEvent}
-use Rattle.hall_core.specs.Hall.{both}
-use Rattle.guest_parts.specs.Running.{Rises}
-use Rattle.thread_step.specs.Ages.{AreAges}
-use Rattle.thread_step.specs.Entered.{AlongIn, Asking, Entered}
-use Rattle.thread_step.specs.Turned.{ActIs, AreRules, EntryIs, Ready, StopsIn, TurnIs, rule_of}
-use Rattle.std.proofs.Common.{refl, sym, subst}
+use Rattle.thread_step.specs.Entered.{Entered}
+use Rattle.thread_step.specs.Turned.{ActIs, StopsIn, rule_of}
+use Rattle.std.proofs.Common.{sym, subst}
 use Rattle.thread_step.proofs.Turning.{call_acts}
 use Rattle.thread_step.proofs.turn.act.Goals as goal
-
 
 pub returns-in-Limit : goal.returns-in-Limit
 returns-in-Limit g c = λ d s.

@@ -1,20 +1,9 @@
-use Rattle.std.proofs.Common.{rules, ◌≡◌, ◌+◌, ◌-◌, ◌<◌, length, ℕ, ◌*◌, ◌≤◌, ◌/◌, ◌%◌, Bool, true, false, nat_eq, nat_lt, List, [], ◌∷◌, ◌++◌, slice_index_or, slice_set, bit_and, bit_or, Fits, w8, w32, w64, Bor, MutBor}
-use Rattle.address_space.specs.Slots.{slot_of}
-use Rattle.guest_state.specs.declared.virtual_state.Virtual.{Virtual}
-use Rattle.machine_model.specs.Gated.{Stand}
-use Rattle.machine_model.specs.Ready.{HasGrown}
-use Rattle.machine_model.specs.Serial.{AtEvent}
-use Rattle.hall_core.specs.Hall.{both}
-use Rattle.guest_parts.specs.Running.{Rises}
-use Rattle.thread_step.specs.Ages.{AreAges}
-use Rattle.thread_step.specs.Entered.{AlongIn, Asking, Entered}
-use Rattle.thread_step.specs.Turned.{ActIs, AreRules, EntryIs, Ready, StopsIn, TurnIs, rule_of}
+use Rattle.thread_step.specs.Entered.{Asking}
 use Rattle.std.proofs.Common.{refl, sym, subst}
 use Rattle.ir_syntax.specs.declared.request.Request.TheVariants as ask
 use Rattle.ir_syntax.specs.declared.width.Width.TheVariants as ir_size
 use Rattle.thread_step.specs.Entered.{StoresBy}
 use Rattle.thread_step.proofs.turn.ask.Goals as goal
-
 
 pub returns-in-Load : goal.returns-in-Load
 returns-in-Load c = λ v d q.

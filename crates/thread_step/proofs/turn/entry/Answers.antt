@@ -1,21 +1,10 @@
-use Rattle.std.proofs.Common.{rules, ◌≡◌, ◌+◌, ◌<◌, ◌≤◌, OnOk, length, ℕ, ◌-◌, ◌*◌, ◌/◌, ◌%◌, Bool, true, false, nat_eq, nat_lt, List, [], ◌∷◌, ◌++◌, slice_index_or, slice_set, bit_and, bit_or, Fits, w8, w32, w64, Bor, MutBor}
-use Rattle.address_space.specs.Slots.{slot_of}
-use Rattle.guest_state.specs.declared.virtual_state.Virtual.{Virtual}
-use Rattle.machine_model.specs.Gated.{Stand}
-use Rattle.machine_model.specs.Ready.{HasGrown}
-use Rattle.machine_model.specs.Serial.{AtEvent}
-use Rattle.hall_core.specs.Hall.{both}
-use Rattle.guest_parts.specs.Running.{Rises}
-use Rattle.thread_step.specs.Ages.{AreAges}
-use Rattle.thread_step.specs.Entered.{AlongIn, Asking, Entered}
-use Rattle.thread_step.specs.Turned.{ActIs, AreRules, EntryIs, Ready, StopsIn, TurnIs, rule_of}
-use Rattle.std.proofs.Common.{refl, sym, subst, arith}
+use Rattle.std.proofs.Common.{◌-◌}
+use Rattle.std.proofs.Common.{refl, arith}
 use Rattle.thread_step.proofs.Turning.{along_held, came_stops, entry_failed, entry_with, nothing_made}
 use Rattle.guest_parts.proofs.Runs.{rises_none}
 use Rattle.thread_step.specs.Steps.{instruction_steps}
 use Rattle.thread_step.proofs.Counting.{entry_counts, held_counts, held_same, rises_less}
 use Rattle.thread_step.proofs.turn.entry.Goals as goal
-
 
 pub returns-in_err-make_place-clause-entry : goal.returns-in_err-make_place-clause-entry
 returns-in_err-make_place-clause-entry g c = λ d ready. entry_failed c.from_residual.result c.args.hall.now c.make_place.new.hall c.args.t c.args.own.now c.args.own.now c.args.table.now.items d c.from_residual.ensures.0 (nothing_made c.args.hall.now c.make_place.new.hall c.args.t c.args.own.now c.args.own.now c.args.table.now.items c.args.table.now.items d d ready c.make_place.ensures.same (along_held c.args.hall.now c.make_place.new.hall c.args.t c.args.own.now c.args.table.now.items d c.make_place.ensures.same ready.along) refl)
@@ -44,4 +33,4 @@ returns-clause-count g c =
     let r = c.requires in
     let stops = came_stops c.in_ok-came.came c.make_place.new.hall c.args.t c.args.own.now c.stretch.new.own c.stretch.new.table.items r.0 (c.in_ok-came.ensures.stretch c.args.t r.0 (along_held c.args.hall.now c.make_place.new.hall c.args.t c.args.own.now c.args.table.now.items r.0 c.make_place.ensures.same r.1.along)) in
     entry_counts c.in_ok-came.came _ _ c.args.own.now.k c.stretch.new.own.k (instruction_steps c.args.hall.now.case c.args.hall.now.journal) (instruction_steps c.args.hall.now.case c.act.new.hall.journal) c.act.new.own.k c.in_ok-came.ensures.count c.in_ok-came.ensures.later
-      (held_counts c.in_ok-came.came c.act.result c.args.hall.now c.make_place.new.hall c.act.new.hall c.args.t c.stretch.new.own c.act.new.own c.stretch.new.table.items c.act.new.table.items stops.0 c.make_place.ensures.same stops.1 (c.act.ensures stops.0 stops.1))
+    (held_counts c.in_ok-came.came c.act.result c.args.hall.now c.make_place.new.hall c.act.new.hall c.args.t c.stretch.new.own c.act.new.own c.stretch.new.table.items c.act.new.table.items stops.0 c.make_place.ensures.same stops.1 (c.act.ensures stops.0 stops.1))

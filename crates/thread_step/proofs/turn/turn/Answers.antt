@@ -1,14 +1,10 @@
-use Rattle.std.proofs.Common.{◌≡◌, ◌<◌, ◌+◌, ◌-◌, true, false, None, Some, Ok, refl, sym, subst, ap, arith, ◌∙◌}
-use Rattle.machine_model.specs.Gated.{Stand}
+use Rattle.std.proofs.Common.{Ok, refl, sym, subst, arith, ◌∙◌}
 use Rattle.thread_step.specs.Own.{data_of}
-use Rattle.thread_step.specs.Turned.{EntryIs, Ready, Stayed, Went}
+use Rattle.thread_step.specs.Turned.{EntryIs}
 use Rattle.thread_step.proofs.Turning.{along_held}
 use Rattle.thread_step.proofs.Whole.{begins_way, breaks, dies, ends, goes_on, no_place, none_end, settles, waits}
-use Rattle.guest_parts.specs.Running.{Rises}
 use Rattle.guest_parts.proofs.Runs.{rises_none}
-use Rattle.thread_step.specs.Steps.{instruction_steps}
 use Rattle.thread_step.proofs.Counting.{count_then, held_same, rises_less, settled_counts}
-use Rattle.thread_step.proofs.turn.turn.Given as given
 use Rattle.thread_step.proofs.turn.turn.Goals as goal
 
 pub loop-i-init : goal.loop-i-init

@@ -1,4 +1,4 @@
-use Rattle.std.proofs.Common.{◌≡◌, Some, sym, ◌∙◌}
+use Rattle.std.proofs.Common.{sym, ◌∙◌}
 use Rattle.hall_core.specs.Hall.{both}
 use Rattle.thread_step.proofs.SlotTurn.{begun_ready, has_none}
 use Rattle.thread_step.proofs.guest.Guest.enter.Goals as goal

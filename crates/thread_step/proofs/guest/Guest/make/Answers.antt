@@ -1,4 +1,4 @@
-use Rattle.std.proofs.Common.{Some, inl, refl, sym, ap}
+use Rattle.std.proofs.Common.{inl, refl, ap}
 use Rattle.std.proofs.lemmas.Option.{none-some}
 use Rattle.machine_model.specs.Gated.{Spot}
 use Rattle.thread_step.proofs.Starting.{newborn_first}

@@ -1,4 +1,4 @@
-use Rattle.std.proofs.Common.{◌≡◌, ap, arith, drop, length, subst, sym, suc, ◌∷◌, ◌∙◌}
+use Rattle.std.proofs.Common.{◌≡◌, ap, drop, suc, ◌∷◌, ◌∙◌}
 use Rattle.guest_parts.proofs.Runs.{next_parts}
 use Rattle.thread_step.proofs.Table.{part_of}
 use Rattle.thread_step.proofs.kept.Kept.answer.Goals as goal
