@@ -26,14 +26,14 @@ use Rattle.thread_step.specs.Steps.{instruction_steps, steps_from}
 use Rattle.thread_step.specs.Turned.{serial_rules}
 use Rattle.ir_runner.specs.declared.run.Ran.{Ran}
 use Rattle.ir_runner.specs.declared.run.Ran.TheVariants.{Ended, Stopped, Memory}
-use Rattle.ir_runner.specs.Outputs.{Gains, GainsBy, Written, written}
-use Rattle.ir_runner.specs.Rounds.{AreGuests, BeganRound, HasRun, TookRound}
-use Rattle.ir_runner.specs.Runs.{BeginsSerial, JournalIs, OutputsAre, RoundIs, WroteRound}
+use Rattle.ir_runner.specs.Outputs.{Gains, GainsBy, GainsSince, Written, written}
+use Rattle.ir_runner.specs.Rounds.{AreGuests, BeganRound, HasRun, TookRound, run_of}
+use Rattle.ir_runner.specs.Runs.{BeginsSerial, IsLastRound, JournalIs, OutputsAre, RoundIs, WroteRound}
 use Rattle.ir_runner.proofs.Counting.{Grew}
 use Rattle.ir_runner.proofs.JournalOutputs.{leads_write}
 use Rattle.ir_runner.proofs.RowOutputs.{Grows}
 use Rattle.ir_runner.proofs.Serials.{CanRun, InSerial, begins_serial, broken_begins, serial_begins, serial_ends, serial_on, took_adds}
-use Rattle.ir_runner.proofs.Sinks.{gains_nothing, gains_on, holds_on}
+use Rattle.ir_runner.proofs.Sinks.{gains_nothing, gains_on, gains_since, holds_on}
 
 -- ---- one round
 
@@ -82,6 +82,9 @@ module _ {O E : Type 0} (faults : O → ℕ) (held : O → Option (List ℕ)) (f
   wrote_second : (failed : Bool) → TookRound h new mid after r → GainsBy failed second_change (drop (length (machine h).library.out2) (machine new).library.out2) → GainsBy failed (written faults_err held_err err err_new) (machine new).library.out2
   wrote_second failed t w = let g = round_grows h new mid after r leads t in gains_on faults_err held_err err err_now err_new (machine h).library.out2 (machine new).library.out2 g.more2 failed g.out2 so.wrote_err w
 
+  last_round : TookRound h new mid after r → IsLastRound new.case (serial_rules r) h.journal new.journal
+  last_round t = subst (λ (c : CaseData). IsLastRound c (serial_rules r) h.journal new.journal) (sym case) (λ reach right. let n = so.serial.after reach right in (n.0, run_of h mid, run_of new after, n.1, refl, t reach right, refl))
+
   -- what was made of a round writes no less
   broken_grows : BeganRound h new mid r → Grows (machine h).library (machine new).library
   broken_grows b =
@@ -99,17 +102,26 @@ module _ {O E : Type 0} (faults : O → ℕ) (held : O → Option (List ℕ)) (f
     wrote_err = wrote_second false w.made w.wrote_err;
   }
 
-  pub stops : (x : Ran) → RoundIs (Some x) h new mid after r first_change second_change → JournalIs x new r × OutputsAre x (machine new) (written faults held out out_new) (written faults_err held_err err err_new)
+  pub stops : (x : Ran) → RoundIs (Some x) h new mid after r first_change second_change → JournalIs x new r × OutputsAre x new r (written faults held out out_new) (written faults_err held_err err err_new)
   stops Ended w = absurd w
   stops (Stopped first second) w =
       let t = w.1.made in
-      (serial_begins new after r (subst (λ (c : CaseData). CanRun c r) (sym case) can) after_leads (serial_on h new mid after r can so.serial going case t), (w.0, wrote_first first t w.1.wrote_out, wrote_second second t w.1.wrote_err))
+      let g = round_grows h new mid after r leads t in (
+        serial_begins new after r (subst (λ (c : CaseData). CanRun c r) (sym case) can) after_leads (serial_on h new mid after r can so.serial going case t),
+        record {
+          failed = w.0;
+          before = h.journal;
+          round = last_round t;
+          wrote_out = subst (λ (c : CaseData). GainsSince first (length (both_of c h.journal).machine.library.out1) (written faults held out out_new) (machine new).library.out1) (sym case) (gains_since faults held out out_now out_new (machine h).library.out1 (machine new).library.out1 g.more1 first g.out1 so.wrote_out w.1.wrote_out);
+          wrote_err = subst (λ (c : CaseData). GainsSince second (length (both_of c h.journal).machine.library.out2) (written faults_err held_err err err_new) (machine new).library.out2) (sym case) (gains_since faults_err held_err err err_now err_new (machine h).library.out2 (machine new).library.out2 g.more2 second g.out2 so.wrote_err w.1.wrote_err);
+        },
+      )
   stops (Memory e) w =
       let g = broken_grows w.0 in
       (broken_begins h new mid r can leads so.serial going case w.0, (holds_on faults held out out_now out_new (machine h).library.out1 (machine new).library.out1 g.more1 g.out1 so.wrote_out w.1, holds_on faults_err held_err err err_now err_new (machine h).library.out2 (machine new).library.out2 g.more2 g.out2 so.wrote_err w.2))
 
 -- the whole run
-pub ends : {O E : Type 0} (faults : O → ℕ) (held : O → Option (List ℕ)) (faults_err : E → ℕ) (held_err : E → Option (List ℕ)) (start h : HallData Block) (mid : List Guest) (r : Rules) (out out_now : O) (err err_now : E) → SoFar faults held faults_err held_err start h mid r out out_now err err_now → is_some (machine h).ending ≡ true → JournalIs Ended h r × OutputsAre Ended (machine h) (written faults held out out_now) (written faults_err held_err err err_now)
+pub ends : {O E : Type 0} (faults : O → ℕ) (held : O → Option (List ℕ)) (faults_err : E → ℕ) (held_err : E → Option (List ℕ)) (start h : HallData Block) (mid : List Guest) (r : Rules) (out out_now : O) (err err_now : E) → SoFar faults held faults_err held_err start h mid r out out_now err err_now → is_some (machine h).ending ≡ true → JournalIs Ended h r × OutputsAre Ended h r (written faults held out out_now) (written faults_err held_err err err_now)
 ends faults held faults_err held_err start h mid r out out_now err err_now so ended = ((serial_ends h mid r so.serial ended, ended), (so.wrote_out, so.wrote_err))
 
 -- ---- before the first round, and after the last

@@ -24,6 +24,7 @@ use Rattle.ir_runner.proofs.Turns.{same_run}
 
 -- what is left of the serial run is so many rounds from here at most
 pub record InSerial (h : HallData Block) (guests : List Guest) (r : Rules) : Type 0 where
+  pub after : (reach : Reaches) → AreReaches h.case.image reach → (n : ℕ) × (rounds h.case reach (serial_rules r) n (at_start h.case) ≡ Some (run_of h guests))
   pub left : (reach : Reaches) → AreReaches h.case.image reach → (n : ℕ) × (serial_by h.case reach (serial_rules r) ≡ rounds h.case reach (serial_rules r) n (run_of h guests))
 
 -- what a run's case has to be like
@@ -32,12 +33,30 @@ pub record CanRun (c : CaseData) (r : Rules) : Type 0 where
   pub turn : 0 < r.turn
 
 pub begins_serial : (h : HallData Block) (guests : List Guest) (r : Rules) → h.journal ≡ [] → map guest_ages guests ≡ replicate 64 [] → InSerial h guests r
-unfolding both_of walk_on
-begins_serial h guests r none ages = record { left = λ reach right. (2 * h.case.limit + 65537, ap (rounds h.case reach (serial_rules r) (2 * h.case.limit + 65537)) (same_run (at_start h.case) (run_of h guests) (ap (both_of h.case) (sym none)) (sym none) (sym ages))) }
+unfolding both_of walk_on rounds
+begins_serial h guests r none ages = record { after = λ reach right. (0, ap (λ (x : Run). Some x) (same_run (at_start h.case) (run_of h guests) (ap (both_of h.case) (sym none)) (sym none) (sym ages))); left = λ reach right. (2 * h.case.limit + 65537, ap (rounds h.case reach (serial_rules r) (2 * h.case.limit + 65537)) (same_run (at_start h.case) (run_of h guests) (ap (both_of h.case) (sym none)) (sym none) (sym ages))) }
 
 some_not : {P : Type 0} (o : Option RunEnd) → IsSome o → o ≡ None → P
 some_not None h e = absurd (let no : false ≡ true = h in cc)
 some_not (Some x) h e = absurd (none-some x (sym e))
+
+-- rounds, and one more
+one_more_by : (c : CaseData) (reach : Reaches) (r : Rules) (n : ℕ) (a run : Run) (end : Option RunEnd) → a.both.machine.ending ≡ end → run.both.machine.ending ≡ None → rounds_on (λ x. option_and_then (rounds c reach (serial_rules r) n) (round c reach (serial_rules r) x)) a end ≡ Some run → (x : Run) × (a.both.machine.ending ≡ None) × (round c reach (serial_rules r) a ≡ Some x) × (rounds c reach (serial_rules r) n x ≡ Some run)
+one_more_by c reach r n a run None e going p = option_and_then_some (rounds c reach (serial_rules r) n) (round c reach (serial_rules r) a) run p (λ x q w. (x, e, q, w))
+one_more_by c reach r n a run (Some end) e going p = absurd (none-some end (sym going ∙ ap (λ (z : Run). z.both.machine.ending) (sym (same_Some a run p)) ∙ e))
+
+one_round : (c : CaseData) (reach : Reaches) (r : Rules) (n : ℕ) (a x : Run) (to : Option Run) → a.both.machine.ending ≡ None → round c reach (serial_rules r) a ≡ Some x → rounds c reach (serial_rules r) n x ≡ to → rounds c reach (serial_rules r) (suc n) a ≡ to
+unfolding rounds
+one_round c reach r n a x to going p q = ap (rounds_on (λ y. option_and_then (rounds c reach (serial_rules r) n) (round c reach (serial_rules r) y)) a) going ∙ ap (option_and_then (rounds c reach (serial_rules r) n)) p ∙ q
+
+one_round_more : (c : CaseData) (reach : Reaches) (r : Rules) (n : ℕ) (a run next : Run) → rounds c reach (serial_rules r) n a ≡ Some run → run.both.machine.ending ≡ None → round c reach (serial_rules r) run ≡ Some next → rounds c reach (serial_rules r) (suc n) a ≡ Some next
+unfolding rounds
+one_round_more c reach r zero a run next p going q =
+    let same : a ≡ run = same_Some a run p in
+    one_round c reach r 0 a next (Some next) (ap (λ (z : Run). z.both.machine.ending) same ∙ going) (ap (round c reach (serial_rules r)) same ∙ q) refl
+one_round_more c reach r (suc n) a run next p going q =
+    let h = one_more_by c reach r n a run a.both.machine.ending refl going p in
+    one_round c reach r (suc n) a h.0 (Some next) h.1 h.2 (one_round_more c reach r n h.0 run next h.3 going q)
 
 -- one round of them is left at least
 record Left (c : CaseData) (reach : Reaches) (r : Rules) (run : Run) : Type 0 where
@@ -69,6 +88,11 @@ has_round h guests r can i going = λ reach right. let l = left_of h guests r ca
 
 pub serial_on : (h new : HallData Block) (guests after : List Guest) (r : Rules) → CanRun h.case r → InSerial h guests r → (machine h).ending ≡ None → new.case ≡ h.case → TookRound h new guests after r → InSerial new after r
 serial_on h new guests after r can i going case t = record {
+  after = λ reach right.
+      let here : AreReaches h.case.image reach = subst (λ (c : CaseData). AreReaches c.image reach) case right in
+      let n = i.after reach here in
+      let q : rounds h.case reach (serial_rules r) (suc n.0) (at_start h.case) ≡ Some (run_of new after) = one_round_more h.case reach r n.0 (at_start h.case) (run_of h guests) (run_of new after) n.1 going (t reach here) in
+      (suc n.0, subst (λ (c : CaseData). rounds c reach (serial_rules r) (suc n.0) (at_start c) ≡ Some (run_of new after)) (sym case) q);
   left = λ reach right.
       let here : AreReaches h.case.image reach = subst (λ (c : CaseData). AreReaches c.image reach) case right in
       let l = left_of h guests r can i going reach here in

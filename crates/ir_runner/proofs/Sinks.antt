@@ -5,7 +5,7 @@ use Rattle.std.proofs.lemmas.List.{append-nil, append_assoc}
 use Rattle.std.proofs.Math.Seq.{drop-append_seam, take-append-add}
 use Rattle.mx_outside.specs.Bytes.{AppendsPrefix}
 use Rattle.mx_outside.specs.Causes.{Rose}
-use Rattle.ir_runner.specs.Outputs.{Gains, GainsBy, HoldsPart, written}
+use Rattle.ir_runner.specs.Outputs.{Gains, GainsBy, GainsSince, HoldsPart, written}
 
 appends_then : (a b c : Option (List ℕ)) (xs ys : List ℕ) → Appends a b xs → Appends b c ys → Appends a c (xs ++ ys)
 appends_then None b c xs ys p q = tt
@@ -38,3 +38,12 @@ gains_on faults held x y z old new more true e g h = (subst (λ n. Rose n (fault
 -- the sink has all that was written before
 pub holds_on : {S : Type 0} (faults : S → ℕ) (held : S → Option (List ℕ)) (x y z : S) (old new more : List ℕ) → new ≡ old ++ more → Gains (written faults held x y) old → Gains (written faults held y z) [] → HoldsPart (written faults held x z) new
 holds_on faults held x y z old new more e g h = (h.0 ∙ g.0, subst (AppendsPrefix (held x) (held z)) (sym e) (prefix_of (held x) (held z) old more (subst (Appends (held x) (held z)) (append-nil old) (appends_then (held x) (held y) (held z) old [] g.1 h.1))))
+
+-- the same of a run that stops there
+pub gains_since : {S : Type 0} (faults : S → ℕ) (held : S → Option (List ℕ)) (x y z : S) (old new more : List ℕ) (failed : Bool) → new ≡ old ++ more → Gains (written faults held x y) old → GainsBy failed (written faults held y z) (drop (length old) new) → GainsSince failed (length old) (written faults held x z) new
+gains_since faults held x y z old new more false e g h = gains_on faults held x y z old new more false e g h
+gains_since faults held x y z old new more true e g h =
+    let p : AppendsPrefix (held y) (held z) more = subst (AppendsPrefix (held y) (held z)) (rest_of old new more e) h.1 in
+    let n = ap length e in
+    let m = length-append old more in
+    (subst (λ k. Rose k (faults z)) g.0 h.0, (length old + p.0, omega arith, omega (arith, n, m, p.1), subst (λ l. Appends (held x) (held z) (take (length old + p.0) l)) (sym e) (subst (Appends (held x) (held z)) (sym (take-append-add old more p.0)) (appends_then (held x) (held y) (held z) old (take p.0 more) g.1 p.2))))

@@ -1,5 +1,5 @@
 -- What a run leaves of a sink.
-use Rattle.std.specs.Prelude.{◌≡◌, ℕ, Bool, true, false, List, Option}
+use Rattle.std.specs.Prelude.{◌≡◌, ℕ, ◌≤◌, Bool, true, false, List, length, take, Option}
 use Rattle.std.specs.Io.KnownBytes.{Appends}
 use Rattle.mx_outside.specs.Bytes.{AppendsPrefix}
 use Rattle.mx_outside.specs.Causes.{Rose}
@@ -31,3 +31,12 @@ HoldsPart sink bytes = (sink.now ≡ sink.before) × AppendsPrefix sink.old sink
 abbrev pub GainsBy : Bool → Written → List ℕ → Type 0
 GainsBy false sink bytes = Gains sink bytes
 GainsBy true sink bytes = GainsPart sink bytes
+
+-- the first n bytes were appended, and a first part of those after them, and the count rose
+abbrev pub GainsFrom : ℕ → Written → List ℕ → Type 0
+GainsFrom n sink bytes = Rose sink.before sink.now × ((k : ℕ) × (n ≤ k) × (k ≤ length bytes) × Appends sink.old sink.new (take k bytes))
+
+-- by whether the last write failed, before which the first n bytes were there
+abbrev pub GainsSince : Bool → ℕ → Written → List ℕ → Type 0
+GainsSince false n sink bytes = Gains sink bytes
+GainsSince true n sink bytes = GainsFrom n sink bytes

@@ -104,7 +104,7 @@ fn run_rounds<L: Lifter, N: Engine, O: Sink, E: Sink>(
     requires rules { AreRules hall.old.case rules }
     ensures case { hall.new.case ≡ hall.old.case }
     ensures journal { JournalIs result hall.new rules }
-    ensures outputs { OutputsAre result (machine hall.new) (written O.faults O.held out.old out.new) (written E.faults E.held err.old err.new) }
+    ensures outputs { OutputsAre result hall.new rules (written O.faults O.held out.old out.new) (written E.faults E.held err.old err.new) }
     ensures count { HasRun (N.count engine.old) (N.count engine.new) hall.old hall.new }
 {
     while !has_ended(hall) {
@@ -133,7 +133,7 @@ fn run_all<L: Lifter, N: Engine, O: Sink, E: Sink>(
     requires rules { AreRules hall.old.case rules }
     ensures case { hall.new.case ≡ hall.old.case }
     ensures journal { JournalIs result hall.new rules }
-    ensures outputs { OutputsAre result (machine hall.new) (written O.faults O.held out.old out.new) (written E.faults E.held err.old err.new) }
+    ensures outputs { OutputsAre result hall.new rules (written O.faults O.held out.old out.new) (written E.faults E.held err.old err.new) }
     ensures count { HasRun (N.count engine.old) (N.count engine.new) hall.old hall.new }
 {
     match make_guests(alloc, hall) {
@@ -148,8 +148,9 @@ fn run_all<L: Lifter, N: Engine, O: Sink, E: Sink>(
 ///
 /// The journal is the serial one of the case and of the two numbers of `rules`: the whole at `Ended`, else what it begins
 /// with. No block that was grown changes, and each grown place has the lifted block. At `Ended` each sink grew by exactly its
-/// output. At `Stopped` at least one sink failed in the last round's writes: that grew by a first part of its output, with one
-/// fault counted at least, and the other by the whole of it. At `Memory` each grew by a first part, and counted no fault.
+/// output. At `Stopped` the run stands after the round in which a write failed: a sink that failed grew by what was there
+/// before the round and a first part of what the round added, with one fault counted at least, and the other one by the whole
+/// of its output. At `Memory` each grew by a first part, and counted no fault.
 pub fn run_serial<L: Lifter, N: Engine, O: Sink, E: Sink>(
     alloc: Global,
     hall: Hall<Block>,
@@ -163,7 +164,7 @@ pub fn run_serial<L: Lifter, N: Engine, O: Sink, E: Sink>(
     requires rules { AreRules hall.case rules }
     ensures case { result.0.case ≡ hall.case }
     ensures journal { JournalIs result.1 result.0 rules }
-    ensures outputs { OutputsAre result.1 (machine result.0) (written O.faults O.held out.old out.new) (written E.faults E.held err.old err.new) }
+    ensures outputs { OutputsAre result.1 result.0 rules (written O.faults O.held out.old out.new) (written E.faults E.held err.old err.new) }
     ensures count { Rises (N.count engine.old) (N.count engine.new) (instruction_steps result.0.case result.0.journal) }
     ensures kept { (a : ℕ) (b : BlockData) → finite.get hall.blocks a ≡ Some b → finite.get result.0.blocks a ≡ Some b }
     ensures lifted { (a : ℕ) (b : BlockData) → finite.get result.0.blocks a ≡ Some b → b ≡ lifted_block result.0.case.image a }
