@@ -56,8 +56,13 @@ fn turn_of<L: Lifter, N: Engine>(
     turned
 }
 
-/// The turn of the thread that lives in the guest's slot: `Ended` at once where the run has an ending, `Idle` where no thread
-/// lives there. After `Waiting` the thread is marked in the shared state; no turn takes away the mark of another slot.
+/// The turn of the thread that lives in the guest's slot, made by the one that has the shared state for itself: at most
+/// `rules.turn` entries that cost of the budget, and at its end the waiting writes that are too old go to memory.
+///
+/// `Ended`: the run has an ending; where it had one before, nothing changed. `Idle`: no thread lives in the slot, and nothing
+/// changed. `Waiting`: the thread stands at a call that waits, and is marked in the shared state; no turn takes away the mark
+/// of another slot. `Memory`: memory for entries, for a block at hand, for a call of the library or for the growth of a place
+/// was wanting; the guest stands with its thread, and what was added is how the turn's entries begin. Else `Ran`.
 pub fn turn_alone<L: Lifter, N: Engine>(
     guest: &mut Guest,
     hall: &mut Hall<Block>,

@@ -1,6 +1,0 @@
-//! Programs, runs of one thread, and the rows.
-
-mod blocks;
-mod programs;
-mod rows;
-mod run;
