@@ -1,8 +1,5 @@
-pub mod Walk
-pub mod Among
-pub mod Telling
-pub mod Entries
-pub mod Results
-pub mod Refusals
-pub mod Ran
-pub mod Carried
+pub mod Writing
+pub mod Making
+pub mod Starting
+pub mod Finishing
+pub mod Carrying

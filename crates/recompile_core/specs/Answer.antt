@@ -1,137 +1,89 @@
--- The words of the theorem: what an answer, its outputs and its journal are.
-use Rattle.std.specs.Prelude.{◌≡◌, ℕ, ◌⊎◌, Bool, List, [], ◌++◌, take, Option, Some, option_and_then, IsSome, IsNone, Result, Err, IsOkAnd, ⊤}
-use Rattle.std.specs.Io.KnownBytes.{Appends}
-use Rattle.mx_outside.specs.Bytes.{AppendsPrefix}
-use Rattle.mx_outside.specs.Causes.{Rose}
+-- What is answered: the case, the journal, and the ending of the machine.
+use Rattle.std.specs.Prelude.{◌≡◌, ℕ, ◌≤◌, List, [], ◌++◌, length, Option, Some, None, IsSome, IsNone, ⊤}
+use Rattle.endings.specs.declared.ending.Ending.{Ending}
+use Rattle.endings.specs.declared.ending.Ending.TheVariants.{Absent, Done, Image, IrText, Memory, ReadFault, Report, Run, Stale, TooLong, TooMany, Twice, Usage, WriteFault}
+use Rattle.endings.specs.Ending.{line_of}
+use Rattle.journal_pack.specs.declared.entry.Entry.{Entry}
+use Rattle.machine_model.specs.CaseData.{CaseData}
+use Rattle.machine_model.specs.Play.{play}
+use Rattle.machine_model.specs.Serial as serial
+use Rattle.machine_model.specs.Serial.{IsSerial}
+use Rattle.machine_model.specs.State.{Machine}
+use Rattle.machine_model.specs.declared.ending.RunEnd.{RunEnd}
 use Rattle.mx_outside.specs.Names.{NameMap}
-use Rattle.machine_model.specs.declared.case.Case.{Case}
-use Rattle.machine_model.specs.declared.first.ending.RunEnd.{RunEnd}
-use Rattle.machine_model.specs.First.Machine.{Thread, Machine, play, silent}
-use Rattle.recompile_core.specs.declared.answer.Answer.{Answer}
-use Rattle.recompile_core.specs.declared.ending.Ending.{Ending}
-use Rattle.recompile_core.specs.declared.ending.Ending.TheVariants.{Run, Usage, Image, ReadFault, Absent, Memory, WriteFault}
-use Rattle.recompile_core.specs.declared.words.Plan.{Plan}
-use Rattle.recompile_core.specs.declared.words.Plan.TheVariants as plans
-use Rattle.recompile_core.specs.declared.words.WordsFault.{WordsFault}
-use Rattle.recompile_core.specs.Ending.{line_of}
-use Rattle.recompile_core.specs.Refusal.{Refuses}
+use Rattle.ir_runner.specs.Outputs.{Gains, Written}
+use Rattle.ir_runner.specs.Runs.{BeginsSerial}
+use Rattle.run_start.specs.Case.{IsCaseOf}
+use Rattle.run_start.specs.Refusal.{IsFile, file_limit}
+use Rattle.recompile_core.specs.declared.plan.Task.{Task}
 
--- the name of the program file, and whether the run is serial
-abbrev pub prog_of : Plan → List ℕ
-prog_of (plans.Run prog serial) = prog
+-- ---- the case
 
-abbrev pub is_serial : Plan → Bool
-is_serial (plans.Run prog serial) = serial
-
--- the machine to which the answer's journal is played on its case
-abbrev pub machine_of : Answer → Option Machine
-machine_of answer = option_and_then (λ c. play c answer.journal) answer.case
-
--- a case is there after a run or a fault of writing, may be there when memory is wanting, and is never there after a refusal
-abbrev pub HasCase : Ending → Option Case → Type 0
-HasCase (Run end) case = IsSome case
+-- a case is there after a run or a failure of writing, may be there where memory was wanting, and is never there after a refusal
+abbrev pub HasCase : Ending → Option CaseData → Type 0
+HasCase (Run e) case = IsSome case
+HasCase Done case = IsNone case
 HasCase (Usage fault) case = IsNone case
 HasCase (Image number) case = IsNone case
 HasCase ReadFault case = IsNone case
 HasCase Absent case = IsNone case
+HasCase (IrText fault) case = IsNone case
+HasCase (Stale address file lifted) case = IsNone case
+HasCase (Report fault) case = IsNone case
+HasCase TooLong case = IsNone case
 HasCase Memory case = ⊤
+HasCase (Twice address) case = IsNone case
+HasCase TooMany case = IsNone case
 HasCase WriteFault case = IsSome case
 
--- a sink's count of faults and the bytes that it tells, before a call and after it
-pub record Written : Type 0 where
-  pub before : ℕ
-  pub now : ℕ
-  pub old : Option (List ℕ)
-  pub new : Option (List ℕ)
+-- The case of the run of a task, where these are the files' names and this is left of the input: that of the bytes that the
+-- program's file has.
+pub record IsCaseOfTask (names : Option NameMap) (left : Option (List ℕ)) (task : Task) (c : CaseData) : Type 0 where
+  pub bytes : List ℕ
+  pub file : IsFile names task.prog bytes
+  pub within : length bytes ≤ file_limit
+  pub case : IsCaseOf bytes task.args left task.steps task.strict c
 
--- a sink, by its count and its bytes, before a call and after it
-abbrev pub written : {S : Type 0} → (S → ℕ) → (S → Option (List ℕ)) → S → S → Written
-written faults held old new = record { before = faults old; now = faults new; old = held old; new = held new }
+-- ---- the headline
 
--- the bytes were appended, and no fault counted
-abbrev pub Gains : Written → List ℕ → Type 0
-Gains sink bytes = (sink.now ≡ sink.before) × Appends sink.old sink.new bytes
-
--- a first part of the bytes was appended, and the count rose
-abbrev pub GainsPart : Written → List ℕ → Type 0
-GainsPart sink bytes = Rose sink.before sink.now × AppendsPrefix sink.old sink.new bytes
-
--- the bytes were appended, all of them unless the count rose
-abbrev pub GainsOrFails : Written → List ℕ → Type 0
-GainsOrFails sink bytes = Gains sink bytes ⊎ GainsPart sink bytes
-
--- a part of the machine's second output, and then a line
-abbrev pub part_and_line : Machine → ℕ → Ending → List ℕ
-part_and_line m n ending = take n m.out2 ++ line_of ending
-
--- the line of the machine's own ending, where it has one
-abbrev pub GainsRunLine : Written → Machine → ℕ → Type 0
-GainsRunLine sink m n = (end : RunEnd) × (m.ending ≡ Some end) × GainsPart sink (part_and_line m n (Run end))
-
--- what stands in `out` after an ending, where there is a machine
-abbrev pub OutOf : Ending → Machine → Written → Type 0
-OutOf (Run end) m out = Gains out m.out1
-OutOf WriteFault m out = GainsOrFails out m.out1
-OutOf Memory m out = AppendsPrefix out.old out.new m.out1
-OutOf (Usage fault) m out = ⊤
-OutOf (Image number) m out = ⊤
-OutOf ReadFault m out = ⊤
-OutOf Absent m out = ⊤
-
--- what stands in `err` after an ending, where there is a machine
-abbrev pub ErrOf : Ending → Machine → Written → Type 0
-ErrOf (Run end) m err = Gains err (m.out2 ++ line_of (Run end))
-ErrOf WriteFault m err = Gains err (m.out2 ++ line_of WriteFault) ⊎ ((n : ℕ) × (GainsPart err (part_and_line m n WriteFault) ⊎ GainsRunLine err m n))
-ErrOf Memory m err = (n : ℕ) × GainsOrFails err (part_and_line m n Memory)
-ErrOf (Usage fault) m err = ⊤
-ErrOf (Image number) m err = ⊤
-ErrOf ReadFault m err = ⊤
-ErrOf Absent m err = ⊤
-
--- after a refusal nothing stands in `out`, and the last line in `err`
-abbrev pub IsRefused : Ending → Written → Written → Type 0
-IsRefused ending out err = Gains out [] × GainsOrFails err (line_of ending)
-
--- when each ending of a run may come
-abbrev pub CauseOf : Ending → Option NameMap → List ℕ → (before now : ℕ) → Written → Written → Type 0
-CauseOf (Run end) names prog before now out err = now ≡ before
-CauseOf (Usage fault) names prog before now out err = Refuses names prog before now (Usage fault)
-CauseOf (Image number) names prog before now out err = Refuses names prog before now (Image number)
-CauseOf ReadFault names prog before now out err = Refuses names prog before now ReadFault
-CauseOf Absent names prog before now out err = Refuses names prog before now Absent
-CauseOf Memory names prog before now out err = ⊤
-CauseOf WriteFault names prog before now out err = Rose out.before out.now ⊎ Rose err.before err.now
-
--- after a run: the machine has its ending, `out` grew by its first output, and `err` by its second and the last line
-pub record EndsRun (answer : Answer) (out err : Written) (end : RunEnd) : Type 0 where
+-- After a run: the machine to which the journal is played has its ending, `out` grew by its first output, and `err` by its
+-- second and then the line of the ending.
+pub record Ends (out err : Written) (c : CaseData) (journal : List Entry) (e : RunEnd) : Type 0 where
   pub machine : Machine
-  pub played : machine_of answer ≡ Some machine
-  pub ending : machine.ending ≡ Some end
-  pub gained_out : Gains out machine.out1
-  pub gained_err : Gains err (machine.out2 ++ line_of (Run end))
+  pub played : play c journal ≡ Some machine
+  pub ending : machine.ending ≡ Some e
+  pub gained_out : Gains out machine.library.out1
+  pub gained_err : Gains err (machine.library.out2 ++ line_of (Run e))
 
--- the journal is played to a machine, and these parts of its outputs stand in the sinks
-pub record Leaves (answer : Answer) (out err : Written) : Type 0 where
-  pub machine : Machine
-  pub played : machine_of answer ≡ Some machine
-  pub left_out : OutOf answer.ending machine out
-  pub left_err : ErrOf answer.ending machine err
+abbrev pub IfRun : Ending → (RunEnd → Type 0) → Type 0
+IfRun (Run e) P = P e
+IfRun Done P = ⊤
+IfRun (Usage fault) P = ⊤
+IfRun (Image number) P = ⊤
+IfRun ReadFault P = ⊤
+IfRun Absent P = ⊤
+IfRun (IrText fault) P = ⊤
+IfRun (Stale address file lifted) P = ⊤
+IfRun (Report fault) P = ⊤
+IfRun TooLong P = ⊤
+IfRun Memory P = ⊤
+IfRun (Twice address) P = ⊤
+IfRun TooMany P = ⊤
+IfRun WriteFault P = ⊤
 
--- the words are a plan, and the ending has its cause, or they are none, and this is their fault
-abbrev pub CauseOfWords : Ending → Result Plan WordsFault → Option NameMap → (before now : ℕ) → Written → Written → Type 0
-CauseOfWords (Run end) words names before now out err = IsOkAnd words (λ plan. CauseOf (Run end) names (prog_of plan) before now out err)
-CauseOfWords (Usage fault) words names before now out err = words ≡ Err fault
-CauseOfWords (Image number) words names before now out err = IsOkAnd words (λ plan. CauseOf (Image number) names (prog_of plan) before now out err)
-CauseOfWords ReadFault words names before now out err = IsOkAnd words (λ plan. CauseOf ReadFault names (prog_of plan) before now out err)
-CauseOfWords Absent words names before now out err = IsOkAnd words (λ plan. CauseOf Absent names (prog_of plan) before now out err)
-CauseOfWords Memory words names before now out err = ⊤
-CauseOfWords WriteFault words names before now out err = IsOkAnd words (λ plan. CauseOf WriteFault names (prog_of plan) before now out err)
-
--- how the run of a case ended: by an ending of the machine, for want of memory, or by a fault of writing
-pub record RanTo (case : Case) (answer : Answer) (err : Written) : Type 0 where
-  pub thread : Thread
-  pub steps : ℕ
-  pub end : Option RunEnd
-  pub machine : play case answer.journal ≡ Some (silent thread steps end)
-  pub ending : (answer.ending ≡ Memory) ⊎ ((e : RunEnd) × (end ≡ Some e) × ((answer.ending ≡ Run e) ⊎ ((answer.ending ≡ WriteFault) × Rose err.before err.now)))
-  pub written : ErrOf answer.ending (silent thread steps end) err
+-- the whole journal of the serial run after a run to its ending, else what it begins with
+abbrev pub JournalOf : Ending → CaseData → serial.Rules → List Entry → Type 0
+JournalOf (Run e) c r journal = IsSerial c r journal
+JournalOf Done c r journal = BeginsSerial c r journal
+JournalOf (Usage fault) c r journal = BeginsSerial c r journal
+JournalOf (Image number) c r journal = BeginsSerial c r journal
+JournalOf ReadFault c r journal = BeginsSerial c r journal
+JournalOf Absent c r journal = BeginsSerial c r journal
+JournalOf (IrText fault) c r journal = BeginsSerial c r journal
+JournalOf (Stale address file lifted) c r journal = BeginsSerial c r journal
+JournalOf (Report fault) c r journal = BeginsSerial c r journal
+JournalOf TooLong c r journal = BeginsSerial c r journal
+JournalOf Memory c r journal = BeginsSerial c r journal
+JournalOf (Twice address) c r journal = BeginsSerial c r journal
+JournalOf TooMany c r journal = BeginsSerial c r journal
+JournalOf WriteFault c r journal = BeginsSerial c r journal

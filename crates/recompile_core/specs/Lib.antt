@@ -1,7 +1,7 @@
-pub mod Ending
-pub mod Words
-pub mod Line
-pub mod CaseOf
-pub mod Refusal
+-- What the contracts of the crate cite.
+pub mod Plans
+pub mod World
 pub mod Answer
-pub mod Played
+pub mod After
+pub mod Causes
+pub mod Runs

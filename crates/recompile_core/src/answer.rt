@@ -1,7 +1,8 @@
 //! What a call answers.
-use crate::ending::Ending;
+
+use endings::Ending;
+use journal_pack::Journal;
 use machine_model::case::Case;
-use machine_model::first::journal::Journal;
 
 /// The answer of a call.
 #[derive(Drop)]

@@ -1,28 +1,22 @@
-//! The top calls: from words, files, input and sinks to the run's outputs, its ending and its journal.
+//! The top calls: from words, files, input and sinks to a run's outputs, its ending and its journal.
 //!
-//! `recompile` reads the words and `recompile_plain` carries out a plan. Their contracts are the product's
-//! theorem: they cite the case of a run, a played journal and a gated journal of `machine_model`, which
-//! image some bytes are of `elf_image`, and what sources, sinks and files do of `mx_outside`. What an ending
-//! writes and answers is in `specs/Ending`, what the words are in `specs/Words`, and the theorem's own
-//! words are in `specs/Answer`.
+//! [`recompile`] reads the words and [`recompile_plain`] carries out a plan: it prepares the run (`run_start`), makes it in the
+//! serial order (`ir_runner`), writes the journal and the report, and tells the ending (`endings`). Their contracts are the
+//! product's theorem, told in `specs`: the run that a plan asks for (`Plans`), its case and what the plain machine reaches along
+//! the journal (`Answer`), what stands in files and sinks afterwards (`After`), and when each ending comes (`Causes`).
 #![tactic(auto)]
 
 mod answer;
-mod ending;
-mod gate;
-mod line;
+mod files;
+mod finish;
 mod plain;
-mod reach;
+mod plan;
 mod run;
+mod start;
 mod top;
-mod words;
 
 pub use answer::Answer;
-pub use ending::Ending;
-pub use gate::{Gate, OpenGate};
+pub use endings::Ending;
 pub use plain::recompile_plain;
+pub use thread_step::{Engine, Gate, OpenGate, PlainEngine};
 pub use top::recompile;
-pub use words::{Plan, Text, WordsError, WordsFault, read_words};
-
-#[cfg(test)]
-mod tests;

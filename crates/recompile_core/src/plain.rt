@@ -1,204 +1,122 @@
 //! Carries out a plan.
-ghost use Rattle.std.specs.Prelude.{◌≡◌, ◌⊎◌, [], None, Some, IsTrue, IfOk, IfErr, IfSome, IfNone, OnOk};
-ghost use Rattle.elf_image.specs.Loading.{IsImageOf, IsFaulty};
-ghost use Rattle.machine_model.specs.First.Blocks.{IsGated, IsReach};
-ghost use Rattle.recompile_core.specs.Answer.{prog_of, is_serial, HasCase, IsRefused, CauseOf, GainsOrFails, RanTo, EndsRun, Leaves, written};
-ghost use Rattle.recompile_core.specs.CaseOf.{IsCaseOf, case_at};
-ghost use Rattle.recompile_core.specs.Ending.{status_of, line_of, IfRun, IfFailure};
-ghost use Rattle.recompile_core.specs.Refusal.{Refuses, RefusesBytes, ended, settled};
+
+ghost use Rattle.std.specs.Prelude.{◌≡◌, [], IfNone, IfOk, IfSome, IsOkAnd, Ok, Some};
+ghost use Rattle.endings.specs.Ending.{status_of};
+ghost use Rattle.guest_parts.specs.Running.{Rises};
+ghost use Rattle.ir_runner.specs.Outputs.{written};
+ghost use Rattle.machine_laws.specs.Cases.{reads_input};
+ghost use Rattle.machine_model.specs.Gated.{IsGated};
+ghost use Rattle.thread_step.specs.Steps.{instruction_steps};
+ghost use Rattle.thread_step.specs.Turned.{AreRules, serial_rules};
+ghost use Rattle.words_line.specs.Plans.{IsInRange};
+ghost use Rattle.recompile_core.specs.After.{FilesAfter, GainsOrFails, IfFailure, InputRead, IsRefused, Leaves, Wrote, with_files};
+ghost use Rattle.recompile_core.specs.Answer.{Ends, HasCase, IfRun, IsCaseOfTask, JournalOf};
+ghost use Rattle.recompile_core.specs.Causes.{CauseOf};
+ghost use Rattle.recompile_core.specs.Plans.{HasRanges, rules_of, run_of};
+ghost use Rattle.recompile_core.specs.Runs.{IsAnswer, Played};
+ghost use Rattle.recompile_core.specs.World.{files_now, input_now};
 
 use crate::answer::Answer;
-use crate::ending::Ending;
-use crate::line::{Told, tell};
-use crate::reach::reach;
+use crate::finish::{finish, refused};
+use crate::plan::{RunPlan, run_of};
 use crate::run::run;
-use crate::words::{Plan, Text};
-use elf_image::{Image, LoadFault, load};
-use machine_model::case::Case;
-use machine_model::first::ending::RunEnd;
-use machine_model::first::journal::Journal;
-use mx_outside::{Files, FilesFault, Sink, Source};
-use std::alloc::{AllocError, Global};
-use std::sync::Arc;
+use crate::start::{ending_of, start};
+use endings::Ending;
+use hall_core::Hall;
+use ir_syntax::Block;
+use mx_outside::{Files, Sink, Source};
+use std::alloc::Global;
+use thread_step::{Engine, Rules};
+use words_line::{Plan, Text};
 
-/// The greatest size of a program file, in bytes.
-const FILE_LIMIT: u64 = 67_108_864;
-
-/// The greatest number of steps of a run.
-const STEP_LIMIT: u64 = 4_194_304;
-
-// The case of an image and the name of its file.
-fn case_of(alloc: Global, prog: Text, image: Image, first: Vec<u64>) -> Result<Case, AllocError>
-    ensures { IfOk result (λ c. c ≡ case_at prog image first.items) }
-{
-    let mut args = Vec::new(alloc);
-    args.push(prog.into_string())?;
-    Ok(Case {
-        image: Arc::new(alloc, image)?,
-        args,
-        input: Vec::new(alloc),
-        limit: STEP_LIMIT,
-        strict: true,
-        first,
-    })
-}
-
-/// An image, and the places that are reached from its entry.
-#[derive(Drop)]
-struct Program {
-    image: Image,
-    first: Vec<u64>,
-}
-
-// The program of the bytes.
-fn read_program(alloc: Global, bytes: &[u8]) -> Result<Program, Ending>
-    ensures image { IfOk result (λ p. IsImageOf bytes.now p.image) }
-    ensures sound { IfOk result (λ p. ¬ IsFaulty bytes.now) }
-    ensures first { IfOk result (λ p. IsReach p.image p.image.entry p.first.items) }
-    ensures refusal { IfErr result (RefusesBytes bytes.now) }
-{
-    let image = match load(alloc, bytes) {
-        Ok(image) => image,
-        Err(LoadFault::Fault(_)) => return Err(Ending::Image(0)),
-        Err(LoadFault::Memory(_)) => return Err(Ending::Memory),
-    };
-    match reach(alloc, &image, image.entry) {
-        Ok(Some(first)) => Ok(Program { image, first }),
-        Ok(None) => Err(Ending::Image(0)),
-        Err(_) => Err(Ending::Memory),
-    }
-}
-
-// The case of the run of the file, or the ending of a call that can't run it.
-fn prepare<F: Files>(alloc: Global, prog: Text, files: &mut F) -> Result<Case, Ending>
-    ensures case { IfOk result (IsCaseOf (F.names files.old) prog) }
-    ensures refusal { IfErr result (Refuses (F.names files.old) prog (F.read_faults files.old) (F.read_faults files.new)) }
-    ensures counted { OnOk result (F.read_faults files.new ≡ F.read_faults files.old) }
-    ensures names { F.names files.new ≡ F.names files.old }
-    ensures writes { F.write_faults files.new ≡ F.write_faults files.old }
-{
-    let bytes = match files.read(alloc, prog.as_str(), FILE_LIMIT) {
-        Ok(bytes) => bytes,
-        Err(FilesFault::Failed) => return Err(Ending::ReadFault),
-        Err(FilesFault::Absent) => return Err(Ending::Absent),
-        Err(FilesFault::TooLong) => return Err(Ending::Image(0)),
-        Err(FilesFault::Memory(_)) => return Err(Ending::Memory),
-    };
-    let program = match read_program(alloc, &bytes) {
-        Ok(program) => program,
-        Err(refusal) => return Err(refusal),
-    };
-    let Program { image, first } = program;
-    match case_of(alloc, prog, image, first) {
-        Ok(case) => Ok(case),
-        Err(_) => Err(Ending::Memory),
-    }
-}
-
-// The ending of a run, or of one that wanted memory.
-fn ended(end: Option<RunEnd>) -> Ending
-    ensures { result ≡ ended end }
-{
-    match end {
-        Some(end) => Ending::Run(end),
-        None => Ending::Memory,
-    }
-}
-
-// The ending once the last line was written or not.
-fn settled(told: Told) -> Ending
-    ensures { result ≡ settled told.ending told.written }
-{
-    match told.ending {
-        Ending::Run(end) if told.written => Ending::Run(end),
-        Ending::Run(_) => Ending::WriteFault,
-        other => other,
-    }
-}
-
-// The answer of a refusal.
-pub(crate) fn refused<E: Sink>(alloc: Global, err: &mut E, refusal: Ending) -> Answer
-    ensures ending { (result.ending ≡ refusal) ⊎ (result.ending ≡ Ending.Memory) }
+// Runs a hall whose journal is empty, and ends the run.
+fn play<F: Files, O: Sink, E: Sink, N: Engine>(
+    alloc: Global,
+    hall: Hall<Block>,
+    rules: Rules,
+    journal_name: &Option<Text>,
+    report_name: &Option<Text>,
+    files: &mut F,
+    out: &mut O,
+    err: &mut E,
+    engine: &mut N,
+) -> Answer
+    requires first { hall.journal ≡ [] }
+    requires rules { AreRules hall.case rules }
     ensures status { result.status ≡ status_of result.ending }
-    ensures case { result.case ≡ None }
-    ensures journal { result.journal ≡ [] }
-    ensures line { GainsOrFails (written E.faults E.held err.old err.new) (line_of result.ending) }
+    ensures case { result.case ≡ Some hall.case }
+    ensures played { Played hall.case (serial_rules rules) result.journal result.ending (files_now F.names F.read_faults F.write_faults files.old) (files_now F.names F.read_faults F.write_faults files.new) (written O.faults O.held out.old out.new) (written E.faults E.held err.old err.new) journal_name.now report_name.now }
+    ensures reads { F.read_faults files.new ≡ F.read_faults files.old }
+    ensures count { Rises (N.count engine.old) (N.count engine.new) (instruction_steps hall.case result.journal) }
 {
-    let told = tell(alloc, err, refusal);
-    Answer {
-        ending: told.ending,
-        status: told.ending.status(),
-        case: None,
-        journal: Journal::new(alloc),
-    }
+    let made = run(alloc, hall, rules, out, err, engine);
+    finish(alloc, made, journal_name, report_name, files, err)
 }
 
-// The answer of a run.
-fn played<E: Sink>(alloc: Global, err: &mut E, case: Case) -> Answer
+/// Carries out a run: prepares it, makes it in the serial order, writes its files, and tells its ending.
+pub(crate) fn carry_out<F: Files, I: Source, O: Sink, E: Sink, N: Engine>(
+    alloc: Global,
+    plan: RunPlan,
+    files: &mut F,
+    input: &mut I,
+    out: &mut O,
+    err: &mut E,
+    engine: &mut N,
+) -> Answer
+    requires { HasRanges plan }
     ensures status { result.status ≡ status_of result.ending }
-    ensures case { result.case ≡ Some case }
-    ensures machine { RanTo case result (written E.faults E.held err.old err.new) }
+    ensures answer { IsAnswer (record { files = files_now F.names F.read_faults F.write_faults files.old; files_after = files_now F.names F.read_faults F.write_faults files.new; input = input_now I.left I.faults input.old; input_after = input_now I.left I.faults input.new; out = written O.faults O.held out.old out.new; err = written E.faults E.held err.old err.new }) plan result }
+    ensures count { IfSome result.case (λ c. Rises (N.count engine.old) (N.count engine.new) (instruction_steps c result.journal)) }
 {
-    let (journal, end) = run(alloc, &case);
-    let told = tell(alloc, err, ended(end));
-    let ending = settled(told);
-    Answer {
-        ending,
-        status: ending.status(),
-        case: Some(case),
+    let RunPlan {
+        task,
+        turn,
+        hold,
         journal,
+        report,
+    } = plan;
+    let rules = Rules {
+        turn,
+        hold,
+        strict: task.strict,
+    };
+    match start(alloc, task, files, input) {
+        Ok(hall) => play(
+            alloc, hall, rules, &journal, &report, files, out, err, engine,
+        ),
+        Err(fault) => refused(alloc, err, ending_of(fault)),
     }
 }
 
-/// Carries out a plan: runs the program of its file serially, to its end.
+/// Carries out a plan to run a program without blocks: runs it in the serial order, whether or not the plan says so, since there
+/// are no workers yet. What the answer says of the run is told in `specs/Runs.antt` (`IsAnswer`).
 ///
-/// - `Run` comes with the machine's own ending. Nothing failed: `out` grew by exactly the machine's first
-///   output, and `err` by its second and then the last line.
-/// - `Image(0)` comes exactly where the file has more than 67,108,864 bytes, is no image that is read, or
-///   reaches more than 65,536 places from its entry; `Absent` exactly where the file isn't there;
-///   `ReadFault` only where the count of the faults of reading rose; `WriteFault` only where that of a sink
-///   rose. `Memory` is the answer for want of memory, and comes in place of any other.
-/// - After a refusal nothing stands on `out`, and the last line on `err`, or a part of it where `err` failed.
-/// - No file changes, and nothing is read from `input`.
-pub fn recompile_plain<F: Files, I: Source, O: Sink, E: Sink>(
+/// - The case, where there is one, is that of the plan and of the bytes that were read; the journal is that of the serial order,
+///   whole at `Run`, and is played and gated. At `Run` `out` grew by the machine's first output and `err` by its second and the
+///   last line; the files of the journal and of the report are written, in this order; the input is read to its end exactly where
+///   the image has a place of `read`.
+/// - At `Memory` and `WriteFault` a first part of these stands there. After a refusal nothing stands in `out`, the last line in
+///   `err`, or a part of it where `err` failed, and no file changed.
+/// - `Image`, `Absent`, `TooLong` and `TooMany` come exactly where the program can't be run for this reason; `ReadFault` and
+///   `WriteFault` only where a count of faults rose, and `Run` only where none did. `Memory` is the answer for want of memory,
+///   and comes in place of any other.
+pub fn recompile_plain<F: Files, I: Source, O: Sink, E: Sink, N: Engine>(
     alloc: Global,
     plan: Plan,
     files: &mut F,
     input: &mut I,
     out: &mut O,
     err: &mut E,
+    engine: &mut N,
 ) -> Answer
-    // The plan is no run by workers.
-    requires serial { IsTrue (is_serial plan) }
+    // The plan is a run without blocks, and its numbers are in their ranges.
+    requires run { IsOkAnd (run_of plan) HasRanges }
     ensures status { result.status ≡ status_of result.ending }
-
-    // The case of an answer is that of the plan and of the bytes that were read.
-    ensures case { IfSome result.case (IsCaseOf (F.names files.old) (prog_of plan)) }
-    ensures there { HasCase result.ending result.case }
-    ensures journal { IfNone result.case (result.journal ≡ []) }
-
-    // The headline: what is written and answered is what the plain machine reaches along the journal.
-    ensures machine { IfRun result.ending
-        (EndsRun result (written O.faults O.held out.old out.new) (written E.faults E.held err.old err.new)) }
-    ensures gated { IfSome result.case (λ c. IsGated c result.journal) }
-    ensures after_failure { IfFailure result.ending (IfSome result.case (λ _.
-        Leaves result (written O.faults O.held out.old out.new) (written E.faults E.held err.old err.new))) }
-
-    // When each ending comes, and what a refusal leaves.
-    ensures cause { CauseOf result.ending (F.names files.old) (prog_of plan)
-        (F.read_faults files.old) (F.read_faults files.new)
-        (written O.faults O.held out.old out.new) (written E.faults E.held err.old err.new) }
-    ensures refused { IfNone result.case
-        (IsRefused result.ending (written O.faults O.held out.old out.new) (written E.faults E.held err.old err.new)) }
-    ensures names { F.names files.new ≡ F.names files.old }
-    ensures writes { F.write_faults files.new ≡ F.write_faults files.old }
-    ensures input { input.new ≡ input.old }
+    ensures answer { IfOk (run_of plan) (λ p. IsAnswer (record { files = files_now F.names F.read_faults F.write_faults files.old; files_after = files_now F.names F.read_faults F.write_faults files.new; input = input_now I.left I.faults input.old; input_after = input_now I.left I.faults input.new; out = written O.faults O.held out.old out.new; err = written E.faults E.held err.old err.new }) p result) }
+    ensures count { IfSome result.case (λ c. Rises (N.count engine.old) (N.count engine.new) (instruction_steps c result.journal)) }
 {
-    let _ = &input;
-    let _ = &out;
-    let Plan::Run { prog, .. } = plan;
-    match prepare(alloc, prog, files) {
-        Ok(case) => played(alloc, err, case),
+    match run_of(alloc, plan) {
+        Ok(run) => carry_out(alloc, run, files, input, out, err, engine),
         Err(refusal) => refused(alloc, err, refusal),
     }
 }

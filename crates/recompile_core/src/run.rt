@@ -1,96 +1,86 @@
-//! Runs a case from its start to an ending.
-ghost use Rattle.std.specs.Prelude.{◌≡◌, min, ◌≤◌, ◌<◌, ◌+◌, Some, None, IfNone};
-ghost use Rattle.machine_model.specs.First.Machine.{private_of, silent, step};
-ghost use Rattle.recompile_core.specs.Played.{end_of, PlaysTo};
+//! A run, from its first step to what it came to.
 
+ghost use Rattle.std.specs.Prelude.{◌≡◌, [], IsSome, Option};
+ghost use Rattle.guest_parts.specs.Running.{Rises};
+ghost use Rattle.ir_runner.specs.Outputs.{written};
+ghost use Rattle.ir_runner.specs.declared.run.Ran.TheVariants as outcome;
+ghost use Rattle.machine_model.specs.Play.{play};
+ghost use Rattle.thread_step.specs.Steps.{instruction_steps};
+ghost use Rattle.thread_step.specs.Turned.{AreRules, serial_rules};
+ghost use Rattle.recompile_core.specs.Runs.{CameBy, IsMade};
+
+use hall_core::Hall;
+use ir_runner::{Ran, run_serial};
+use ir_syntax::Block;
+use journal_pack::Journal;
 use machine_model::case::Case;
-use machine_model::first::ending::{BadKind, RunEnd};
-use machine_model::first::guest::{Guest, Stop};
-use machine_model::first::journal::{Entry, Journal};
+use machine_model::ending::RunEnd;
+use mx_outside::Sink;
+use run_start::ImageLifter;
 use std::alloc::Global;
+use thread_step::{Engine, Rules};
 
-/// The greatest number of private steps between two entries.
-const STRETCH: u64 = 4096;
-
-// How many private steps the next entry may have, where so many are left to the limit.
-fn most_of(left: u64) -> u32
-    ensures { result ≡ min left 4096 }
-{
-    left.min(STRETCH) as u32
+/// How a run came to its end.
+#[derive(Clone, Copy, Debug)]
+pub(crate) enum Came {
+    /// With an ending of the guest program; all that it wrote is in the sinks.
+    Ended(RunEnd),
+    /// With writes that failed: which of the two.
+    Stopped { out: bool, err: bool },
+    /// Memory was wanting.
+    Memory,
 }
 
-/// One entry, and the run's ending if it is the last.
+/// What a run made: its journal, from the case, and how it came to its end.
 #[derive(Drop)]
-struct Made {
-    entry: Entry,
-    steps: u64,
-    ending: Option<RunEnd>,
+pub(crate) struct Made {
+    pub(crate) case: Case,
+    pub(crate) journal: Journal,
+    pub(crate) came: Came,
 }
 
-// The ending of a run that stops at `rip`.
-fn end_of(stop: Stop, rip: u64) -> RunEnd
-    ensures { result ≡ end_of stop rip }
+// How a run came to its end, where this is the machine's ending.
+fn came_of(ran: Ran, end: Option<RunEnd>) -> Came
+    requires ended { ran ≡ outcome.Ended → IsSome end }
+    ensures { CameBy ran end result }
 {
-    match stop {
-        Stop::Exit(number) => RunEnd::Exit(number),
-        Stop::Code => RunEnd::Fault {
-            thread: 0,
-            rip,
-            kind: BadKind::Code,
+    match ran {
+        Ran::Stopped { out, err } => Came::Stopped { out, err },
+        Ran::Memory(_) => Came::Memory,
+        Ran::Ended => match end {
+            Some(end) => Came::Ended(end),
+            None => unreachable!(),
         },
     }
 }
 
-/// Makes the next entry: private steps up to the limit, up to 4,096 or to a step that isn't private.
-fn next_entry(case: &Case, guest: &mut Guest, steps: u64) -> Made
-    requires { steps ≤ case.now.limit }
-    ensures step { step case.now (silent guest.old steps None) result.entry ≡ Some (silent guest.new result.steps result.ending) }
-    ensures progress { IfNone result.ending (steps < result.steps) }
-    ensures within { IfNone result.ending (result.steps ≤ case.now.limit) }
+/// Runs all threads of a hall whose journal is empty in the serial order.
+///
+/// The journal is played to a machine, and gated. At `Ended` it is the whole serial one, the machine has this ending, and each
+/// sink grew by its output; at `Stopped` and `Memory` it is what the serial one begins with, and the sinks are as
+/// `ir_runner::run_serial` says.
+pub(crate) fn run<O: Sink, E: Sink, N: Engine>(
+    alloc: Global,
+    hall: Hall<Block>,
+    rules: Rules,
+    out: &mut O,
+    err: &mut E,
+    engine: &mut N,
+) -> Made
+    requires first { hall.journal ≡ [] }
+    requires rules { AreRules hall.case rules }
+    ensures case { result.case ≡ hall.case }
+    ensures made { IsMade hall.case (serial_rules rules) result.journal result.came (written O.faults O.held out.old out.new) (written E.faults E.held err.old err.new) }
+    ensures count { Rises (N.count engine.old) (N.count engine.new) (instruction_steps hall.case result.journal) }
 {
-    let limit = case.limit();
-    let most = most_of(limit - steps);
-    let (k, stop) = guest.stretch(case.image(), most);
-    let after = steps + u64::from(k);
-    match stop {
-        Some(stop) => Made {
-            entry: Entry::Ev(0, k),
-            steps: after + 1,
-            ending: Some(end_of(stop, guest.rip())),
-        },
-        None => {
-            if after == limit {
-                Made {
-                    entry: Entry::Over(0, k),
-                    steps: after,
-                    ending: Some(RunEnd::Steps),
-                }
-            } else {
-                Made {
-                    entry: Entry::Tick(0, k),
-                    steps: after,
-                    ending: None,
-                }
-            }
-        }
-    }
-}
-
-/// Runs the case: the journal, and the ending; no ending where memory was wanting.
-pub(crate) fn run(alloc: Global, case: &Case) -> (Journal, Option<RunEnd>)
-    ensures { PlaysTo case.now result.0 result.1 }
-{
-    let mut journal = Journal::new(alloc);
-    let mut guest = Guest::start(case.image());
-    let mut steps = 0;
-    'entries: loop {
-        let made = next_entry(case, &mut guest, steps);
-        if journal.push(made.entry).is_err() {
-            return (journal, None);
-        }
-        steps = made.steps;
-        if made.ending.is_some() {
-            return (journal, made.ending);
-        }
+    let lifter = ImageLifter::make(alloc);
+    let (hall, ran) = run_serial(alloc, hall, &lifter, engine, rules, out, err);
+    hall.facts();
+    let came = came_of(ran, hall.ending().copied());
+    let (case, journal) = hall.into_run();
+    Made {
+        case,
+        journal,
+        came,
     }
 }

@@ -5,7 +5,7 @@
 #![tactic(auto)]
 
 use mx_outside::{RealFiles, RealSink, RealSource};
-use recompile_core::{OpenGate, recompile};
+use recompile_core::{OpenGate, PlainEngine, recompile};
 use std::alloc::{AllocError, Global};
 use std::io::ErrorKind;
 use std::process::ExitCode;
@@ -42,6 +42,7 @@ fn main(rt: HostRuntime) -> ExitCode {
     let mut input = RealSource::make(rt.stdin());
     let mut out = RealSink::make(rt.stdout());
     let mut err = RealSink::make(rt.stderr());
+    let mut engine = PlainEngine::make();
     let answer = recompile(
         &rt,
         rt.alloc(),
@@ -50,6 +51,7 @@ fn main(rt: HostRuntime) -> ExitCode {
         &mut input,
         &mut out,
         &mut err,
+        &mut engine,
         &OpenGate,
     );
     ExitCode::from(answer.status)

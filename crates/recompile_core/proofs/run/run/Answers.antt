@@ -1,30 +1,18 @@
-use Rattle.std.proofs.Common.{◌∙◌, sym, arith}
-use Rattle.machine_model.proofs.Played.{play-push}
-use Rattle.recompile_core.proofs.Entries.{play_none}
-use Rattle.recompile_core.proofs.Results.{on_ok, none_of}
+use Rattle.std.proofs.Common.{◌∙◌, sym, subst, List}
+use Rattle.journal_pack.specs.declared.entry.Entry.{Entry}
+use Rattle.machine_model.specs.CaseData.{CaseData}
+use Rattle.thread_step.specs.Turned.{serial_rules}
+use Rattle.ir_runner.specs.Outputs.{written}
+use Rattle.recompile_core.specs.Runs.{IsMade}
+use Rattle.recompile_core.proofs.Making.{made_by}
 use Rattle.recompile_core.proofs.run.run.Goals as goal
 
-pub entries-init : goal.entries-init
-entries-init c = record {
-  within = omega arith;
-  played = rw (c.new-journal.ensures, c.start-guest.ensures, c.image.ensures) (play_none c.args.case.now);
-}
-
-pub returns-then-is_some : goal.returns-then-is_some
-returns-then-is_some c =
-    let pushed = on_ok c.push.result _ c.push.ensures.ok (sym c.is_err.ensures.value ∙ c.if-is_err.false) in
-    record {
-      thread = c.next_entry-made.new.guest;
-      steps = c.next_entry-made.result.steps;
-      played = rw pushed (play-push c.args.case.now _ _ c.entries.journal c.next_entry-made.result.entry c.entries.invariant.played c.next_entry-made.ensures.step);
-    }
-
-pub entries-preserved : goal.entries-preserved
-entries-preserved c =
-    let pushed = on_ok c.push.result _ c.push.ensures.ok (sym c.is_err.ensures.value ∙ c.if-is_err.false) in
-    let none = none_of c.next_entry-made.result.ending (sym c.is_some.ensures ∙ c.if-is_some.false) in
-    let within = rw none at c.next_entry-made.ensures.within in
-    record {
-      within = within;
-      played = rw pushed (play-push c.args.case.now _ _ c.entries.journal c.next_entry-made.result.entry c.entries.invariant.played (rw none at c.next_entry-made.ensures.step));
-    }
+pub returns-clause-made : goal.returns-clause-made
+returns-clause-made g c =
+    let h = c.run_serial-hall.result.0 in
+    let out = written g.O.Sink.faults g.O.Sink.held c.args.out.now c.run_serial-hall.new.out in
+    let err = written g.E.Sink.faults g.E.Sink.held c.args.err.now c.run_serial-hall.new.err in
+    let m = made_by h c.run_serial-hall.result.1 c.copied.result c.came_of-came.result c.args.rules out err c.facts.ensures.gated c.facts.ensures.played c.run_serial-hall.ensures.journal c.run_serial-hall.ensures.outputs (c.copied.ensures ∙ c.ending.ensures) c.came_of-came.ensures in
+    let P : CaseData → Type 0 = λ k. IsMade k (serial_rules c.args.rules) h.journal c.came_of-came.result out err in
+    let Q : List Entry → Type 0 = λ j. IsMade c.args.hall.case (serial_rules c.args.rules) j c.came_of-came.result out err in
+    subst Q (sym c.into_run-case.ensures.journal) (subst P c.run_serial-hall.ensures.case m)

@@ -1,0 +1,32 @@
+-- The plans that are carried out.
+use Rattle.std.specs.Prelude.{◌≡◌, ℕ, ◌<◌, ◌≤◌, List, [], ◌∷◌, Option, Some, None, Result, Ok, Err}
+use Rattle.words_line.specs.declared.plan.Plan.{Plan}
+use Rattle.words_line.specs.declared.plan.Plan.TheVariants.{Gen, Lift, Run}
+use Rattle.words_line.specs.declared.plan.WordsFault.{WordsFault}
+use Rattle.words_line.specs.declared.plan.WordsFault.TheVariants.{Line, UnknownCommand}
+use Rattle.machine_model.specs.Serial as serial
+use Rattle.recompile_core.specs.declared.plan.RunPlan.{RunPlan}
+
+-- The run that a plan asks for; the program's arguments begin with its file's name. Until they are built, `lift` and `gen`
+-- are no commands, and a run takes no blocks.
+abbrev pub run_of : Plan → Result RunPlan WordsFault
+run_of (Lift prog base misses) = Err UnknownCommand
+run_of (Gen number threads rounds name) = Err UnknownCommand
+run_of (Run prog (Some ir) strict serial turn hold steps report journal args) = Err Line
+run_of (Run prog None strict serial turn hold steps report journal args) =
+    Ok (record { task = record { prog = prog; args = prog ∷ args; steps = steps; strict = strict }; turn = turn; hold = hold; journal = journal; report = report })
+
+-- the run that the words ask for, or what is wrong with them
+abbrev pub plan_of_run : Result Plan WordsFault → Result RunPlan WordsFault
+plan_of_run (Ok plan) = run_of plan
+plan_of_run (Err fault) = Err fault
+
+abbrev pub rules_of : RunPlan → serial.Rules
+rules_of p = record { turn = p.turn; hold = p.hold }
+
+-- the numbers of a run are in their ranges
+pub record HasRanges (p : RunPlan) : Type 0 where
+  pub turn : 0 < p.turn
+  pub most : p.turn ≤ 65536
+  pub hold : p.hold ≤ 255
+  pub steps : p.task.steps ≤ 134217728
