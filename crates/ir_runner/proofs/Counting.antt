@@ -11,7 +11,7 @@ use Rattle.machine_model.specs.Gated.{Both, advance, begin}
 use Rattle.hall_core.specs.Hall.{HallData, machine}
 use Rattle.guest_parts.specs.Running.{Rises}
 use Rattle.guest_parts.proofs.Runs.{rises_on}
-use Rattle.thread_step.specs.Steps.{instruction_steps, steps_from}
+use Rattle.guest_entries.specs.Steps.{instruction_steps, steps_from}
 use Rattle.ir_runner.specs.Rounds.{HasRun}
 
 steps_append : (c : CaseData) (b : Both) (xs ys : List Entry) → steps_from c b (xs ++ ys) ≡ steps_from c b xs + steps_from c (walk_on c b xs) ys

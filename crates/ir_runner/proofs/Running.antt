@@ -22,7 +22,7 @@ use Rattle.guest_parts.specs.Running.{Rises}
 use Rattle.thread_step.specs.declared.guest.Guest.{Guest}
 use Rattle.thread_step.specs.declared.rules.Rules.{Rules}
 use Rattle.thread_step.specs.Guest.{guest_ages}
-use Rattle.thread_step.specs.Steps.{instruction_steps, steps_from}
+use Rattle.guest_entries.specs.Steps.{instruction_steps, steps_from}
 use Rattle.thread_step.specs.Turned.{serial_rules}
 use Rattle.ir_runner.specs.declared.run.Ran.{Ran}
 use Rattle.ir_runner.specs.declared.run.Ran.TheVariants.{Ended, Stopped, Memory}

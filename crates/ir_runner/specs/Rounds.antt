@@ -9,7 +9,7 @@ use Rattle.guest_parts.specs.Running.{Rises}
 use Rattle.thread_step.specs.declared.guest.Guest.{Guest}
 use Rattle.thread_step.specs.declared.rules.Rules.{Rules}
 use Rattle.thread_step.specs.Guest.{IsReady, guest_ages, guest_slot, private_steps}
-use Rattle.thread_step.specs.Steps.{instruction_steps}
+use Rattle.guest_entries.specs.Steps.{instruction_steps}
 use Rattle.thread_step.specs.Turned.{serial_rules}
 
 -- the guest of a slot is ready, and while the run goes on it has no private steps that no entry told

@@ -9,7 +9,7 @@ ghost use Rattle.machine_model.specs.Gated.{most_grown};
 ghost use Rattle.hall_core.specs.Hall.{grown, machine};
 ghost use Rattle.guest_parts.specs.Running.{Rises};
 ghost use Rattle.thread_step.specs.Guest.{guest_ages};
-ghost use Rattle.thread_step.specs.Steps.{instruction_steps};
+ghost use Rattle.guest_entries.specs.Steps.{instruction_steps};
 ghost use Rattle.thread_step.specs.Turned.{AreRules};
 ghost use Rattle.ir_runner.specs.declared.run.Ran.TheVariants as ran;
 ghost use Rattle.ir_runner.specs.Outputs.{written};

@@ -6,7 +6,7 @@ ghost use Rattle.guest_parts.specs.Running.{Rises};
 ghost use Rattle.ir_runner.specs.Outputs.{written};
 ghost use Rattle.machine_laws.specs.Cases.{reads_input};
 ghost use Rattle.machine_model.specs.Gated.{IsGated};
-ghost use Rattle.thread_step.specs.Steps.{instruction_steps};
+ghost use Rattle.guest_entries.specs.Steps.{instruction_steps};
 ghost use Rattle.thread_step.specs.Turned.{AreRules, serial_rules};
 ghost use Rattle.words_line.specs.Plans.{IsInRange};
 ghost use Rattle.recompile_core.specs.After.{FilesAfter, GainsOrFails, IfFailure, InputRead, IsRefused, Leaves, Wrote, with_files};

@@ -5,7 +5,7 @@ ghost use Rattle.guest_parts.specs.Running.{Rises};
 ghost use Rattle.ir_runner.specs.Outputs.{written};
 ghost use Rattle.ir_runner.specs.declared.run.Ran.TheVariants as outcome;
 ghost use Rattle.machine_model.specs.Play.{play};
-ghost use Rattle.thread_step.specs.Steps.{instruction_steps};
+ghost use Rattle.guest_entries.specs.Steps.{instruction_steps};
 ghost use Rattle.thread_step.specs.Turned.{AreRules, serial_rules};
 ghost use Rattle.recompile_core.specs.Runs.{CameBy, IsMade};
 

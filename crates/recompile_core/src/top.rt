@@ -4,7 +4,7 @@ ghost use Rattle.std.specs.Prelude.{◌≡◌, ◌⊎◌, IfErr, IfOk, IfSome};
 ghost use Rattle.endings.specs.Ending.{status_of};
 ghost use Rattle.guest_parts.specs.Running.{Rises};
 ghost use Rattle.ir_runner.specs.Outputs.{written};
-ghost use Rattle.thread_step.specs.Steps.{instruction_steps};
+ghost use Rattle.guest_entries.specs.Steps.{instruction_steps};
 ghost use Rattle.words_line.specs.Commands.{plan_of, texts};
 ghost use Rattle.recompile_core.specs.Plans.{plan_of_run};
 ghost use Rattle.recompile_core.specs.Runs.{IsAnswer, IsUsage};

@@ -17,7 +17,7 @@ use Rattle.lift_table.specs.Block.{IsFaithful, lifted_block}
 use Rattle.hall_core.specs.Hall.{FitTheirPlaces, Placed, block_in, places_of}
 use Rattle.machine_model.specs.Own.{HasNoRepeats}
 use Rattle.machine_model.proofs.Reaches.{sorted_below}
-use Rattle.thread_step.proofs.Grown.{among_head, among_tail, reached_code}
+use Rattle.guest_entries.proofs.Grown.{among_head, among_tail, reached_code}
 use Rattle.run_start.specs.First.{AreCodePlaces, AreLifted, IsLifted}
 
 -- ---- places

@@ -31,15 +31,17 @@ use Rattle.guest_parts.specs.Guest.{GuestData}
 use Rattle.guest_parts.specs.Points.{Acts, point_at, waiting_of}
 use Rattle.guest_parts.specs.Running.{Rises}
 use Rattle.guest_parts.proofs.CallEntries.{asks_with}
-use Rattle.thread_step.specs.declared.own.Own.{Own}
-use Rattle.thread_step.specs.declared.stretch.Came.{Came}
-use Rattle.thread_step.specs.declared.stretch.Came.TheVariants as came
-use Rattle.thread_step.specs.Entered.{AlongIn, SettledBy, Table, TellsPartly, turn_in}
-use Rattle.thread_step.specs.Own.{data_of, position_of}
-use Rattle.thread_step.specs.Stretched.{parts_for}
+use Rattle.guest_steps.proofs.Striding.{rises_then}
+use Rattle.guest_steps.specs.declared.own.Own.{Own}
+use Rattle.guest_steps.specs.declared.stretch.Came.{Came}
+use Rattle.guest_steps.specs.declared.stretch.Came.TheVariants as came
+use Rattle.guest_steps.specs.Kept.{Table}
+use Rattle.guest_entries.specs.Entered.{AlongIn, SettledBy, TellsPartly, turn_in}
+use Rattle.guest_steps.specs.Own.{data_of, position_of}
+use Rattle.guest_steps.specs.Stretched.{parts_for}
 use Rattle.thread_step.specs.Turned.{ActIs, StopsIn, rule_of}
-use Rattle.thread_step.proofs.Adding.{settle_free}
-use Rattle.thread_step.specs.Steps.{AddsFree, IsFree, entry_steps, event_by as event_of, event_steps, instruction_steps, steps_from}
+use Rattle.guest_entries.proofs.Adding.{settle_free}
+use Rattle.guest_entries.specs.Steps.{AddsFree, IsFree, entry_steps, event_by as event_of, event_steps, instruction_steps, steps_from}
 
 -- ---- journals
 
@@ -293,12 +295,6 @@ entry_counts (came.Library p what) a b k mid old new last h later most = rises_l
 entry_counts (came.Asks q) a b k mid old new last h later most = rises_less a b (mid - k + 1) ((new + last) - (old + k)) (omega (arith, later, most)) h
 
 -- two stretches of a turn
-pub rises_then : (a b c x y z : ℕ) → Rises a b (y - x) → Rises b c (z - y) → Rises a c (z - x)
-rises_then a b c x y z (inl p) (inl q) = inl (omega (arith, p, q))
-rises_then a b c x y z (inl p) (inr full) = inr full
-rises_then a b c x y z (inr full) (inl q) = inr (omega (arith, full, q))
-rises_then a b c x y z (inr full) (inr more) = inr more
-
 pub count_then : (c d : CaseData) (a b e k m n : ℕ) (first mid last : List Entry) → d ≡ c → Rises a b ((instruction_steps c mid + m) - (instruction_steps c first + k)) → Rises b e ((instruction_steps d last + n) - (instruction_steps d mid + m)) → Rises a e ((instruction_steps c last + n) - (instruction_steps c first + k))
 count_then c d a b e k m n first mid last same p q = rises_then a b e (instruction_steps c first + k) (instruction_steps c mid + m) (instruction_steps c last + n) p (subst (λ z. Rises b e ((instruction_steps z last + n) - (instruction_steps z mid + m))) same q)
 

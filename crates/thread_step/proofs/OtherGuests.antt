@@ -31,10 +31,10 @@ use Rattle.guest_parts.specs.Standing as standing
 use Rattle.guest_parts.specs.Standing.{StandsIn}
 use Rattle.thread_step.specs.declared.guest.Guest.{Guest}
 use Rattle.thread_step.specs.Guest.{HasNone, IsNewborn, IsReady, StandsWith, starting_core}
-use Rattle.thread_step.specs.Own.{IsUnder, data_of}
-use Rattle.thread_step.specs.Kept.{AreKept}
-use Rattle.thread_step.specs.Steps.{Adds}
-use Rattle.thread_step.proofs.Missing.{kept_within}
+use Rattle.guest_steps.specs.Own.{IsUnder, data_of}
+use Rattle.guest_steps.specs.Kept.{AreKept}
+use Rattle.guest_entries.specs.Steps.{Adds}
+use Rattle.guest_entries.proofs.Missing.{kept_within}
 use Rattle.thread_step.proofs.SlotTurn.{still_born}
 
 -- ---- growth takes nothing away
@@ -75,7 +75,7 @@ module _ (h new : HallData Block) (g : Guest) (case : new.case ≡ h.case) (more
     ages = w.ages ∙ sym (ap (λ s. length (list_at (machine new) s)) slot ∙ ap length same.writes ∙ ap (λ s. length (list_at (machine h) s)) (sym slot));
   }
 
-  stands_same : (t : ℕ) (d : Stand) → IsWhole (both new) → (machine new).ending ≡ None → g.slot < 64 → thread_in (machine new) g.slot ≡ Some t → StandsWith h t g d → StandsWith new t g d
+  pub stands_same : (t : ℕ) (d : Stand) → IsWhole (both new) → (machine new).ending ≡ None → g.slot < 64 → thread_in (machine new) g.slot ≡ Some t → StandsWith h t g d → StandsWith new t g d
   stands_same t d whole going low lives s =
       let there = thread_at_slot (machine new) g.slot t low lives in
       record {
@@ -95,14 +95,14 @@ module _ (h new : HallData Block) (g : Guest) (case : new.case ≡ h.case) (more
     spot = same.spot ∙ n.spot;
   }
 
-  grown_same : HasGrown h.case.image (both h) g.slot → HasGrown new.case.image (both new) g.slot
+  pub grown_same : HasGrown h.case.image (both h) g.slot → HasGrown new.case.image (both new) g.slot
   grown_same (inl other) = inl (ap (λ (x : Spot). x.latest) same.spot ∙ other)
   grown_same (inr there) = inr (ap (λ (c : CaseData). is_missing c.image (both new).gate.grown (stand_at (both new) g.slot)) case ∙ missing_less h.case.image (both h).gate.grown (both new).gate.grown (stand_at (both new) g.slot) more (ap (is_missing h.case.image (both h).gate.grown) stand_same ∙ there))
 
   none_same : HasNone new g → HasNone h g
   none_same alone t lives = alone t (same.thread ∙ lives)
 
-  ready_same : IsWhole (both new) → (machine h).ending ≡ None → ((t : ℕ) → is_unborn (life_at (machine h).library t) ≡ false → is_unborn (life_at (machine new).library t) ≡ false) → IsReady h g → IsReady new g
+  pub ready_same : IsWhole (both new) → (machine h).ending ≡ None → ((t : ℕ) → is_unborn (life_at (machine h).library t) ≡ false → is_unborn (life_at (machine new).library t) ≡ false) → IsReady h g → IsReady new g
   ready_same whole on stays r =
       let there : (t : ℕ) → thread_in (machine new) g.slot ≡ Some t → thread_in (machine h) g.slot ≡ Some t = λ t lives. sym same.thread ∙ lives in
       record {
@@ -141,7 +141,7 @@ module _ (h new : HallData Block) (g : Guest) (es : List Entry) (born : IsBorn (
       let was = life_was h.case h.journal es (both h) (both new) t (life_at (machine h).library t) refl leads then (ap (thread_in (machine h)) there.0 ∙ born.before) there.1 in
       let no : true ≡ false = sym was ∙ r.stands.born t on is in cc
 
-  ready_born : new.case ≡ h.case → ((t : ℕ) → is_unborn (life_at (machine h).library t) ≡ false → is_unborn (life_at (machine new).library t) ≡ false) → IsReady new g
+  pub ready_born : new.case ≡ h.case → ((t : ℕ) → is_unborn (life_at (machine h).library t) ≡ false → is_unborn (life_at (machine new).library t) ≡ false) → IsReady new g
   ready_born case stays =
       let fresh : IsNewborn new g.slot = record { core = born.core ∙ ap (starting_core new.case g.slot) (sym born.birth); writes = born.writes; spot = born.spot } in
       record {
@@ -158,7 +158,7 @@ module _ (h new : HallData Block) (g : Guest) (es : List Entry) (born : IsBorn (
 
 -- ---- after entries of a thread of another slot
 
-leads_walks : (c : CaseData) (b n : Both) (es : List Entry) → Leads c b es n → walk (advance c) b es ≡ Some n
+pub leads_walks : (c : CaseData) (b n : Both) (es : List Entry) → Leads c b es n → walk (advance c) b es ≡ Some n
 unfolding Leads walk
 leads_walks c b n [] p = ap (λ x. Some x) p
 leads_walks c b n (e ∷ es) p = ap (option_and_then (λ x. walk (advance c) x es)) p.1 ∙ leads_walks c p.0 n es p.3

@@ -27,14 +27,15 @@ use Rattle.machine_laws.proofs.Turns.{turn_leads}
 use Rattle.hall_core.specs.Hall.{HallData, both, machine, mark_at}
 use Rattle.guest_parts.specs.Points.{point_at, turn_of, waiting_of}
 use Rattle.thread_step.specs.declared.guest.Guest.{Guest}
-use Rattle.thread_step.specs.declared.own.Own.{Own}
+use Rattle.guest_steps.specs.declared.own.Own.{Own}
 use Rattle.thread_step.specs.declared.rules.Rules.{Rules}
 use Rattle.thread_step.specs.declared.rules.Turned.{Turned}
 use Rattle.thread_step.specs.declared.rules.Turned.TheVariants.{Ran, Waiting, Ended, Idle, Memory}
 use Rattle.thread_step.specs.Alone.{BeginsOneTurn, InRun, IsAt, IsOneTurn}
-use Rattle.thread_step.specs.Entered.{OthersKeepMarks, Table, turn_in}
+use Rattle.guest_steps.specs.Kept.{Table}
+use Rattle.guest_entries.specs.Entered.{OthersKeepMarks, turn_in}
 use Rattle.thread_step.specs.Guest.{HasNone, IsLeft, IsNewborn, IsReady, IsStanding, StandsWith}
-use Rattle.thread_step.specs.Steps.{Adds}
+use Rattle.guest_entries.specs.Steps.{Adds}
 use Rattle.thread_step.specs.Turned.{IsTurn, Ready, TurnIs, serial_rules}
 use Rattle.thread_step.proofs.Whole.{stands_at}
 use Rattle.thread_step.proofs.Lives.{LivesOrNone, lives_there, none_left, own_lives}
@@ -83,7 +84,7 @@ same_stand c b s u k n d e slot same p q = same_Some d e (sym p ∙ ap (λ z. ga
 
 -- ---- the guest after a turn
 
-none_is : (o : Option RunEnd) → IsSome o → o ≡ None → ⊥
+pub none_is : (o : Option RunEnd) → IsSome o → o ≡ None → ⊥
 none_is None s e = let no : false ≡ true = s in cc
 none_is (Some x) s e = none-some x (sym e)
 
@@ -93,7 +94,7 @@ turn_lives h t r own d x leads live q =
     let w = turn_leads h.case (reach_of h.case.image) (serial_rules r) t (point_at own.k d) (turn_in h own.ages) x right leads (q (reach_of h.case.image) right) in
     own_lives h.case (both h) x.both t w.0 (whole_from h.case (both h) h.journal leads) w.3 w.2 (inl live)
 
-live_born : (life : Life) → is_running life ≡ true → is_unborn life ≡ false
+pub live_born : (life : Life) → is_running life ≡ true → is_unborn life ≡ false
 live_born Unborn h = absurd (let no : false ≡ true = h in cc)
 live_born (Live start argument) h = refl
 live_born (HasEnded value) h = absurd (let no : false ≡ true = h in cc)
@@ -149,7 +150,7 @@ module _ (new : HallData Block) (t : ℕ) (g : Guest) (slot : slot_of t ≡ g.sl
   was_born : is_unborn (life_at (machine new).library t) ≡ false → (u : ℕ) → g.thread ≡ Some u → is_unborn (life_at (machine new).library u) ≡ false
   was_born born u is = subst (λ z. is_unborn (life_at (machine new).library z) ≡ false) (same_thread u is) born
 
-  standing : (d : Stand) → StandsWith new t g d → IsStanding new g
+  pub standing : (d : Stand) → StandsWith new t g d → IsStanding new g
   standing d s = record {
     low = low;
     begun = λ u going lives is. subst (λ z. (e : Stand) × StandsWith new z g e) (same_thread u is) (d, s);
@@ -159,13 +160,13 @@ module _ (new : HallData Block) (t : ℕ) (g : Guest) (slot : slot_of t ≡ g.sl
     born = λ u going is. was_born (live_born (life_at (machine new).library t) s.along.going.live) u is;
   }
 
-  ready_on : (d : Stand) → Ready new t g.own g.table.items d → IsReady new g
+  pub ready_on : (d : Stand) → Ready new t g.own g.table.items d → IsReady new g
   ready_on d r = record {
     stands = standing d (record { along = r.along; fresh = r.fresh });
     grown = λ u going lives. subst (HasGrown new.case.image (both new)) slot r.grown;
   }
 
-  gone_ready : thread_in (machine new) (slot_of t) ≡ None → is_unborn (life_at (machine new).library t) ≡ false → g.own.k ≡ 0 → g.own.ages ≡ [] → IsReady new g
+  pub gone_ready : thread_in (machine new) (slot_of t) ≡ None → is_unborn (life_at (machine new).library t) ≡ false → g.own.k ≡ 0 → g.own.ages ≡ [] → IsReady new g
   gone_ready none born told ages =
       let no : (u : ℕ) → thread_in (machine new) g.slot ≡ Some u → ⊥ = λ u lives. none-some u (sym none ∙ ap (thread_in (machine new)) slot ∙ lives) in
       record {
@@ -180,7 +181,7 @@ module _ (new : HallData Block) (t : ℕ) (g : Guest) (slot : slot_of t ≡ g.sl
         grown = λ u going lives. absurd (no u lives);
       }
 
-  ended_ready : IsSome (machine new).ending → IsReady new g
+  pub ended_ready : IsSome (machine new).ending → IsReady new g
   ended_ready ended =
       let no : (machine new).ending ≡ None → ⊥ = λ going. none_is (machine new).ending ended going in
       record {

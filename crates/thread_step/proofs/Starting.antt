@@ -25,13 +25,12 @@ use Rattle.machine_model.proofs.Own.{whole_from}
 use Rattle.address_space.specs.Addresses.{top}
 use Rattle.elf_image.specs.Layout.{ImageData}
 use Rattle.hall_core.specs.Hall.{HallData, both, machine}
-use Rattle.thread_step.specs.declared.own.Own.{Own}
-use Rattle.thread_step.specs.declared.own.Position.TheVariants.{Between}
-use Rattle.thread_step.specs.Ages.{AreAges}
-use Rattle.thread_step.specs.Entered.{Table}
+use Rattle.guest_steps.specs.declared.own.Own.{Own}
+use Rattle.guest_steps.specs.declared.own.Position.TheVariants.{Between}
+use Rattle.guest_steps.specs.Ages.{AreAges}
+use Rattle.guest_steps.specs.Kept.{AreKept, KeptData, Table}
 use Rattle.thread_step.specs.Guest.{IsNewborn, starting_core}
-use Rattle.thread_step.specs.Kept.{AreKept, KeptData}
-use Rattle.thread_step.specs.Own.{IsUnder, position_of}
+use Rattle.guest_steps.specs.Own.{IsUnder, position_of}
 use Rattle.thread_step.specs.Turned.{Ready}
 use Rattle.guest_parts.specs.Standing.{StandsBetween, StandsIn}
 

@@ -28,19 +28,22 @@ use Rattle.guest_parts.specs.Running.{leads_to}
 use Rattle.guest_parts.specs.Standing.{StandsBetween, StandsIn}
 use Rattle.guest_parts.proofs.CallEntries.{call_stops}
 use Rattle.guest_parts.proofs.Turns.{at_event, at_limit, at_miss, at_most, comes_to, missing, stop_here}
-use Rattle.thread_step.specs.declared.own.Own.{Own}
-use Rattle.thread_step.specs.declared.own.Position.{Position}
-use Rattle.thread_step.specs.declared.stretch.Came.{Came}
-use Rattle.thread_step.specs.declared.stretch.Came.TheVariants as came
-use Rattle.thread_step.specs.Ages.{AreAges}
-use Rattle.thread_step.specs.Entered.{AlongIn, Asking, CallIs, Entered, Partly, Table, Waited, turn_in}
-use Rattle.thread_step.specs.Own.{data_of, position_of}
-use Rattle.thread_step.specs.Stretched.{CameIs, Moved}
+use Rattle.guest_steps.specs.declared.own.Own.{Own}
+use Rattle.guest_steps.specs.declared.own.Position.{Position}
+use Rattle.guest_steps.specs.declared.stretch.Came.{Came}
+use Rattle.guest_steps.specs.declared.stretch.Came.TheVariants as came
+use Rattle.guest_steps.specs.Ages.{AreAges}
+use Rattle.guest_steps.specs.Kept.{Table}
+use Rattle.guest_entries.specs.Entered.{AlongIn, Asking, CallIs, Entered, Partly, Waited, turn_in}
+use Rattle.guest_steps.specs.Own.{data_of, position_of}
+use Rattle.guest_steps.specs.Stretched.{CameIs, Moved}
+use Rattle.thread_step.specs.Costs.{Spends}
 use Rattle.thread_step.specs.Turned.{ActIs, Broke, EntryIs, Ready, Stayed, StopsIn, Went, rule_of}
-use Rattle.thread_step.specs.Steps.{Adds}
-use Rattle.thread_step.proofs.Adding.{adds_none, partly_adds}
-use Rattle.thread_step.proofs.Begins.{Begins, begins_same, begins_then, turn_from_begins}
-use Rattle.thread_step.proofs.Moves.{wanted_there}
+use Rattle.guest_entries.specs.Steps.{Adds}
+use Rattle.guest_entries.proofs.Adding.{adds_none, partly_adds}
+use Rattle.guest_entries.proofs.Begins.{Begins, begins_same, begins_then, turn_from_begins}
+use Rattle.guest_steps.proofs.Moves.{wanted_there}
+use Rattle.thread_step.proofs.Spending.{partly_spends, spends_more, spends_none}
 
 -- ---- the rule where a guest stops
 
@@ -165,6 +168,7 @@ module _ (h new : HallData Block) (t spare : ℕ) (own before mid after : Own) (
     fresh = q.fresh young;
     begins = λ reach right n x is. broke_begins h.case reach t n (point_at own.k d) (point_at mid.k e) (rule_of r) (turn_in h own.ages) x new.journal came_to (λ y a. q.begins reach right y (subst (λ z. act h.case reach t (point_at mid.k e) (turn_in h z) (rule_of r) ≡ Some y) (sym ages_are) a)) is;
     adds = partly_adds t h.journal new.journal mid.k after.k q.tells;
+    spent = partly_spends t h.journal new.journal mid.k after.k q.tells;
     marks = q.marks;
   }
 
@@ -182,6 +186,7 @@ nothing_made h new t own after table left d e ready is along ages = record {
   fresh = subst (AreAges 255) (sym ages) ready.fresh;
   begins = λ reach right n x run. subst (λ (z : HallData Block). Begins z.journal x.journal) (sym is) (turn_from_begins h.case reach t (suc n) (point_at own.k d) (turn_in h own.ages) x run);
   adds = subst (λ (z : HallData Block). Adds t h.journal z.journal) (sym is) (adds_none t h.journal);
+  spent = subst (λ (z : HallData Block). Spends t 1 0 h.journal z.journal) (sym is) (spends_more t 0 1 0 0 h.journal h.journal (omega arith) (omega arith) (spends_none t h.journal));
   marks = λ s ne. ap (λ (z : HallData Block). mark_at z s) is;
 }
 

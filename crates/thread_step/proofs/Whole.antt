@@ -15,18 +15,18 @@ use Rattle.hall_core.specs.Hall.{HallData, both, mark_at}
 use Rattle.guest_parts.specs.Guest.{GuestData}
 use Rattle.guest_parts.specs.Points.{Acts, ComesOut, GoesOnAs, point_at, waiting_of}
 use Rattle.guest_parts.proofs.Turns.{goes_then, out_then, turn_comes_out, turn_goes_on, turn_spent}
-use Rattle.thread_step.specs.declared.own.Own.{Own}
+use Rattle.guest_steps.specs.declared.own.Own.{Own}
 use Rattle.thread_step.specs.declared.rules.Rules.{Rules}
-use Rattle.thread_step.specs.Ages.{AreAges}
-use Rattle.thread_step.specs.Entered.{AlongIn, OthersKeepMarks, SettledBy, Table, turn_in}
-use Rattle.thread_step.specs.Kept.{AreKept}
-use Rattle.thread_step.specs.Own.{Along, data_of}
+use Rattle.guest_steps.specs.Ages.{AreAges}
+use Rattle.guest_steps.specs.Kept.{AreKept, Table}
+use Rattle.guest_entries.specs.Entered.{AlongIn, OthersKeepMarks, SettledBy, turn_in}
+use Rattle.guest_steps.specs.Own.{Along, data_of}
 use Rattle.thread_step.specs.Turned.{Broke, BrokenTurn, EndedTurn, IsTurn, OneEntry, RanTurn, Ready, Stayed, WaitedTurn, Went}
 use Rattle.machine_model.proofs.Reaches.{are_reaches, reach_of}
 use Rattle.machine_laws.proofs.Turns.{act_on, here}
-use Rattle.thread_step.specs.Steps.{Adds}
-use Rattle.thread_step.proofs.Adding.{adds_none, adds_then}
-use Rattle.thread_step.proofs.Begins.{Begins, begins_then, settle_begins, turn_from_begins}
+use Rattle.guest_entries.specs.Steps.{Adds}
+use Rattle.guest_entries.proofs.Adding.{adds_none, adds_then}
+use Rattle.guest_entries.proofs.Begins.{Begins, begins_then, settle_begins, turn_from_begins}
 
 -- after i entries of its budget a turn goes on from e
 pub record OnTheWay (h now : HallData Block) (t : ℕ) (r : Rules) (own mid : Own) (table : Table) (d : Stand) (i : ℕ) (e : Stand) : Type 0 where
@@ -48,7 +48,7 @@ begins_way h t r own table d ready = record {
 }
 
 -- what is done at a point is done by entries of the thread
-entry_adds : (now new : HallData Block) (t : ℕ) (q : Point) (ages : List ℕ) (x : Turn) (r : Rule) → Acts now.case t q (turn_in now ages) r x → x.journal ≡ new.journal → Adds t now.journal new.journal
+pub entry_adds : (now new : HallData Block) (t : ℕ) (q : Point) (ages : List ℕ) (x : Turn) (r : Rule) → Acts now.case t q (turn_in now ages) r x → x.journal ≡ new.journal → Adds t now.journal new.journal
 entry_adds now new t q ages x r acts is =
     let s = turn_in now ages in
     let w = act_on now.case t (both now) now.journal (reach_of now.case.image) q s x r (here now.case t (both now) now.journal s refl refl) (acts (reach_of now.case.image) (are_reaches now.case.image)) in

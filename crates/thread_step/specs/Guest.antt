@@ -12,8 +12,8 @@ use Rattle.hall_core.specs.Hall.{HallData, both, machine}
 use Rattle.thread_step.specs.declared.guest.Guest.{Guest}
 use Rattle.thread_step.specs.declared.rules.Turned.{Turned}
 use Rattle.thread_step.specs.declared.rules.Turned.TheVariants.{Ran, Waiting, Ended, Idle, Memory}
-use Rattle.thread_step.specs.Ages.{AreAges}
-use Rattle.thread_step.specs.Entered.{AlongIn}
+use Rattle.guest_steps.specs.Ages.{AreAges}
+use Rattle.guest_entries.specs.Entered.{AlongIn}
 
 -- the slot of a guest, the private steps of its thread since the thread's last entry, and the ages of the thread's waiting writes
 abbrev pub guest_slot : Guest → ℕ

@@ -1,12 +1,6 @@
 -- What the contracts of the crate cite.
-pub mod Ages
-pub mod Called
-pub mod Kept
-pub mod Own
-pub mod Steps
-pub mod Stretched
-pub mod Entered
+pub mod Costs
 pub mod Turned
 pub mod Guest
-pub mod Growth
 pub mod Alone
+pub mod Context

@@ -13,16 +13,18 @@ use Rattle.machine_model.specs.Serial.{AreReaches, AtEvent, AtLimit, AtMiss, AtM
 use Rattle.machine_model.specs.State.{is_live}
 use Rattle.hall_core.specs.Hall.{HallData, both, mark_at}
 use Rattle.guest_parts.specs.Points.{Acts, ComesTo, point_at, waiting_of}
-use Rattle.thread_step.specs.declared.own.Own.{Own}
+use Rattle.guest_steps.specs.declared.own.Own.{Own}
 use Rattle.thread_step.specs.declared.rules.Rules.{Rules}
 use Rattle.thread_step.specs.declared.rules.Turned.{Turned}
 use Rattle.thread_step.specs.declared.rules.Turned.TheVariants.{Ran, Waiting, Ended, Idle, Memory}
-use Rattle.thread_step.specs.declared.stretch.Came.{Came}
-use Rattle.thread_step.specs.declared.stretch.Came.TheVariants as came
-use Rattle.thread_step.specs.Ages.{AreAges}
-use Rattle.thread_step.specs.Entered.{AlongIn, Asking, Entered, OthersKeepMarks, Partly, Table, Waited, turn_in}
-use Rattle.thread_step.specs.Steps.{Adds}
-use Rattle.thread_step.specs.Stretched.{StopsAt}
+use Rattle.guest_steps.specs.declared.stretch.Came.{Came}
+use Rattle.guest_steps.specs.declared.stretch.Came.TheVariants as came
+use Rattle.guest_steps.specs.Ages.{AreAges}
+use Rattle.guest_steps.specs.Kept.{Table}
+use Rattle.guest_entries.specs.Entered.{AlongIn, Asking, Entered, OthersKeepMarks, Partly, Waited, turn_in}
+use Rattle.guest_entries.specs.Steps.{Adds}
+use Rattle.thread_step.specs.Costs.{Spends}
+use Rattle.guest_steps.specs.Stretched.{StopsAt}
 
 -- ---- one entry
 
@@ -85,6 +87,7 @@ pub record Broke (old new : HallData Block) (t : ℕ) (before after : Own) (tabl
   pub fresh : AreAges 255 after.ages
   pub begins : (reach : Reaches) → AreReaches old.case.image reach → (left : ℕ) (x : Turn) → turn_from old.case reach t (suc left) (point_at before.k d) (turn_in old before.ages) ≡ Some x → (rest : List Entry) × (x.journal ≡ new.journal ++ rest)
   pub adds : Adds t old.journal new.journal
+  pub spent : Spends t 1 0 old.journal new.journal
   pub marks : OthersKeepMarks old new t
 
 abbrev pub EntryIs : Result Bool AllocError → HallData Block → HallData Block → ℕ → Own → Own → Table → Stand → Type 0

@@ -11,11 +11,12 @@ ghost use Rattle.thread_step.specs.declared.guest.Guest.{Guest as GuestData};
 ghost use Rattle.thread_step.specs.declared.rules.Turned.TheVariants as turned;
 ghost use Rattle.thread_step.specs.Alone.{InRun, IsAt, TakesTurn};
 ghost use Rattle.thread_step.specs.Guest.{IsLeft, IsReady, guest_slot, private_steps};
-ghost use Rattle.thread_step.specs.Steps.{instruction_steps};
+ghost use Rattle.guest_entries.specs.Steps.{instruction_steps};
 ghost use Rattle.thread_step.specs.Turned.{AreRules};
 
 use crate::guest::Guest;
-use crate::rules::{Lifter, Rules, Turned};
+use crate::rules::{Rules, Turned};
+use guest_entries::Lifter;
 use crate::turn::{has_ended, turn};
 use guest_parts::Engine;
 use hall_core::Hall;

@@ -8,14 +8,13 @@ ghost use Rattle.lift_table.specs.Follow.{Agrees};
 ghost use Rattle.machine_model.specs.Gated.{Stand, stand_at};
 ghost use Rattle.machine_model.specs.State.{thread_in};
 ghost use Rattle.hall_core.specs.Hall.{both, machine};
-ghost use Rattle.thread_step.specs.Entered.{Table};
+ghost use Rattle.guest_steps.specs.Kept.{AreKept, Table};
 ghost use Rattle.thread_step.specs.Guest.{IsNewborn, IsReady, guest_ages, guest_slot, private_steps, starting_core};
-ghost use Rattle.thread_step.specs.Kept.{AreKept};
 ghost use Rattle.thread_step.specs.Turned.{Ready};
 
-use crate::ages::Ages;
-use crate::kept::Kept;
-use crate::own::{Own, Position};
+use guest_steps::ages::Ages;
+use guest_steps::kept::Kept;
+use guest_steps::own::{Own, Position};
 use address_space::stack_top;
 use guest_state::Virtual;
 use hall_core::Hall;

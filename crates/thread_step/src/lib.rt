@@ -4,27 +4,21 @@
 //! parts, and [`Turned`] says why a turn ended. What a guest is to its thread, and what running its blocks comes to, is
 //! said and proved in `guest_parts`; what a turn is, in `machine_model` (`specs/Serial.antt`).
 //!
-//! The crate stands on `hall_core` for the shared state, on `guest_parts` for the guest's side of a step, and on
-//! `lift_table` for what a lifted block is.
+//! The crate stands on `hall_core` for the shared state, on `guest_steps` for a guest's private steps and on `guest_entries` for
+//! the entries of its thread.
 #![tactic(auto)]
 
-mod access;
-mod ages;
 mod alone;
-mod begin;
-mod call;
-mod flushes;
-mod growth;
+mod context;
 mod guest;
-mod kept;
-mod own;
 mod rules;
-mod settle;
-mod stretch;
-mod tells;
 mod turn;
+mod worker;
 
 pub use alone::turn_alone;
+pub use context::Context;
 pub use guest::Guest;
+pub use guest_entries::Lifter;
 pub use guest_parts::{Engine, PlainEngine};
-pub use rules::{Gate, Lifter, OpenGate, Rules, Turned};
+pub use rules::{Gate, OpenGate, Rules, Turned};
+pub use worker::turn;

@@ -8,20 +8,21 @@ ghost use Rattle.machine_model.specs.Ready.{HasGrown};
 ghost use Rattle.machine_model.specs.Serial.{AtEvent};
 ghost use Rattle.hall_core.specs.Hall.{both, machine};
 ghost use Rattle.guest_parts.specs.Running.{Rises};
-ghost use Rattle.thread_step.specs.Ages.{AreAges};
-ghost use Rattle.thread_step.specs.Entered.{AlongIn, Asking, Entered};
-ghost use Rattle.thread_step.specs.Steps.{instruction_steps};
+ghost use Rattle.guest_steps.specs.Ages.{AreAges};
+ghost use Rattle.guest_entries.specs.Entered.{AlongIn, Asking, Entered};
+ghost use Rattle.guest_entries.specs.Steps.{instruction_steps};
 ghost use Rattle.thread_step.specs.Turned.{ActIs, AreRules, EntryIs, Ready, StopsIn, TurnIs, rule_of};
 
-use crate::access::{end, fail, fence, load, locked, store};
-use crate::call::call;
-use crate::growth::miss;
-use crate::kept::Kept;
-use crate::own::Own;
-use crate::rules::{Lifter, Rules, Turned};
-use crate::settle::settle;
-use crate::stretch::{Came, stretch};
-use crate::tells::{over, tick};
+use guest_entries::access::{end, fail, fence, load, locked, store};
+use guest_entries::call::call;
+use guest_entries::growth::miss;
+use guest_steps::kept::Kept;
+use guest_steps::own::Own;
+use crate::rules::{Rules, Turned};
+use guest_entries::Lifter;
+use guest_entries::settle::settle;
+use guest_steps::stretch::{Came, stretch};
+use guest_entries::tells::{over, tick};
 use guest_parts::Engine;
 use hall_core::Hall;
 use ir_syntax::{Block, Request, Width};
@@ -91,8 +92,8 @@ fn act<L: Lifter>(
     }
 }
 
-// Room for the entries of one step of a turn.
-fn make_place(hall: &mut Hall<Block>) -> Result<(), AllocError>
+/// Room for the entries of one step of a turn.
+pub(crate) fn make_place(hall: &mut Hall<Block>) -> Result<(), AllocError>
     ensures same { hall.new ≡ record hall.old { spare = hall.new.spare } }
     ensures ok { OnOk result (66 ≤ hall.new.spare) }
 {
@@ -102,8 +103,8 @@ fn make_place(hall: &mut Hall<Block>) -> Result<(), AllocError>
     Ok(())
 }
 
-// The private steps up to the thread's next entry of its budget, and that entry; true where it has to wait.
-fn entry<L: Lifter, N: Engine>(
+/// The private steps up to the thread's next entry of its budget, and that entry; true where it has to wait.
+pub(crate) fn entry<L: Lifter, N: Engine>(
     alloc: Global,
     own: &mut Own,
     table: &mut Vec<Option<Kept>>,

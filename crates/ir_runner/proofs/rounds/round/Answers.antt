@@ -1,5 +1,5 @@
 use Rattle.std.proofs.Common.{◌≡◌, ◌≢◌, arith, sym, subst, ap, ◌∙◌, length}
-use Rattle.thread_step.specs.Steps.{instruction_steps}
+use Rattle.guest_entries.specs.Steps.{instruction_steps}
 use Rattle.ir_runner.proofs.Counting.{dead_steps, ran_nothing, ran_same, ran_then}
 use Rattle.ir_runner.proofs.Rounding.{ended_then, on_err}
 use Rattle.ir_runner.proofs.Walking.{Way, took_adds, way_begins, way_breaks, way_dead, way_ended, way_ends, way_lacks, way_on, way_stuck}

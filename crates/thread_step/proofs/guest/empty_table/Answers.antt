@@ -1,5 +1,5 @@
 use Rattle.std.proofs.Common.{sym, subst}
-use Rattle.thread_step.specs.Kept.{AreKept}
+use Rattle.guest_steps.specs.Kept.{AreKept}
 use Rattle.thread_step.proofs.Starting.{none_kept, none_more}
 use Rattle.thread_step.proofs.guest.empty_table.Goals as goal
 

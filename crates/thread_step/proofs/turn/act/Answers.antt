@@ -1,4 +1,4 @@
-use Rattle.thread_step.specs.Entered.{Entered}
+use Rattle.guest_entries.specs.Entered.{Entered}
 use Rattle.thread_step.specs.Turned.{ActIs, StopsIn, rule_of}
 use Rattle.std.proofs.Common.{sym, subst}
 use Rattle.thread_step.proofs.Turning.{call_acts}

@@ -1,8 +1,8 @@
-use Rattle.thread_step.specs.Entered.{Asking}
+use Rattle.guest_entries.specs.Entered.{Asking}
 use Rattle.std.proofs.Common.{refl, sym, subst}
 use Rattle.ir_syntax.specs.declared.request.Request.TheVariants as ask
 use Rattle.ir_syntax.specs.declared.width.Width.TheVariants as ir_size
-use Rattle.thread_step.specs.Entered.{StoresBy}
+use Rattle.guest_entries.specs.Entered.{StoresBy}
 use Rattle.thread_step.proofs.turn.ask.Goals as goal
 
 pub returns-in-Load : goal.returns-in-Load

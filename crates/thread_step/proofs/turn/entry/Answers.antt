@@ -2,7 +2,7 @@ use Rattle.std.proofs.Common.{◌-◌}
 use Rattle.std.proofs.Common.{refl, arith}
 use Rattle.thread_step.proofs.Turning.{along_held, came_stops, entry_failed, entry_with, nothing_made}
 use Rattle.guest_parts.proofs.Runs.{rises_none}
-use Rattle.thread_step.specs.Steps.{instruction_steps}
+use Rattle.guest_entries.specs.Steps.{instruction_steps}
 use Rattle.thread_step.proofs.Counting.{entry_counts, held_counts, held_same, rises_less}
 use Rattle.thread_step.proofs.turn.entry.Goals as goal
 

@@ -1,5 +1,5 @@
 use Rattle.std.proofs.Common.{Ok, refl, sym, subst, arith, ◌∙◌}
-use Rattle.thread_step.specs.Own.{data_of}
+use Rattle.guest_steps.specs.Own.{data_of}
 use Rattle.thread_step.specs.Turned.{EntryIs}
 use Rattle.thread_step.proofs.Turning.{along_held}
 use Rattle.thread_step.proofs.Whole.{begins_way, breaks, dies, ends, goes_on, no_place, none_end, settles, waits}

@@ -1,7 +1,7 @@
 use Rattle.std.proofs.Common.{◌+◌, ◌-◌}
 use Rattle.machine_model.specs.Gated.{Stand}
 use Rattle.guest_parts.specs.Running.{Rises}
-use Rattle.thread_step.specs.Steps.{instruction_steps}
+use Rattle.guest_entries.specs.Steps.{instruction_steps}
 use Rattle.thread_step.specs.Turned.{Ready}
 use Rattle.thread_step.proofs.Whole.{OnTheWay}
 use Rattle.thread_step.proofs.turn.turn.Given as goal

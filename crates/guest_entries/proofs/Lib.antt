@@ -1,0 +1,14 @@
+pub mod Begins
+pub mod Adding
+pub mod Entering
+pub mod Telling
+pub mod Accesses
+pub mod Passing
+pub mod Standing
+pub mod Composed
+pub mod Flushed
+pub mod Settling
+pub mod Grown
+pub mod Growing
+pub mod Missing
+pub mod Calling

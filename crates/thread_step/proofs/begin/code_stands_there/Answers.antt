@@ -1,5 +1,0 @@
-use Rattle.thread_step.proofs.Asked.{code_there}
-use Rattle.thread_step.proofs.begin.code_stands_there.Goals as goal
-
-pub returns : goal.returns
-returns c = code_there c.args.image.now c.args.a c.requires

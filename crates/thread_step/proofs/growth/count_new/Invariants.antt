@@ -1,6 +1,0 @@
-use Rattle.hall_core.specs.Hall.{grown}
-use Rattle.thread_step.proofs.Grown.{Counted}
-use Rattle.thread_step.proofs.growth.count_new.Given as goal
-
-abbrev pub invariant-loop-a : goal.invariant-loop-a
-invariant-loop-a l = Counted (grown l.hall) l.places l.a-index l.count
