@@ -3,6 +3,7 @@ use Rattle.std.proofs.Common.{◌≡◌, ℕ, zero, suc, ◌+◌, ◌≤◌, Boo
 use Rattle.std.specs.Prelude.{All, option_and_then, nat_le, ◌==◌, not}
 use Rattle.std.specs.List.{sum_by}
 use Rattle.std.proofs.lemmas.List.{append_assoc}
+use Rattle.std.proofs.lemmas.List.Elements.{All-append, All-cons, All-head, All-nil, All-tail}
 use Rattle.std.proofs.lemmas.List.Sums.{sum_by-append, sum_by-cons}
 use Rattle.std.proofs.lemmas.Option.{none-some, option_and_then_some, same_Some}
 use Rattle.address_space.specs.Slots.{slot_of}
@@ -11,7 +12,7 @@ use Rattle.journal_pack.specs.declared.entry.Entry.{Entry}
 use Rattle.journal_pack.specs.declared.entry.Entry.TheVariants.{Ev, Tick, Flush, Wait, Miss, Grow, Over, Full, Dead}
 use Rattle.journal_pack.specs.Entry.{thread_of}
 use Rattle.machine_model.specs.CaseData.{CaseData}
-use Rattle.machine_model.specs.Serial.{AtEvent, AtLimit, AtMiss, AtMost, GoesOn, Point, Reaches, Rule, Turn, act, after_miss, event, event_by, flush, flush_some, flushed_before, full_or, grow_all, grow_if, grow_reach, make, miss, most_grown, told_waiting, ungrown}
+use Rattle.machine_model.specs.Serial.{AtEvent, AtLimit, AtMiss, AtMost, GoesOn, Point, Reaches, Rule, Turn, act, after_miss, event, event_by, flush, flush_some, flushed_before, full_or, grow_all, grow_if, grow_reach, make, miss, told_waiting, ungrown}
 use Rattle.machine_model.specs.State.{list_at}
 use Rattle.machine_model.specs.Step.{waits_at}
 use Rattle.machine_model.proofs.SerialGated.{made}
@@ -20,12 +21,8 @@ use Rattle.guest_entries.specs.Entered.{TellsPartly}
 use Rattle.guest_entries.specs.Steps.{AddsFree, AddsMiss, IsFree}
 use Rattle.thread_step.specs.Costs.{AreSpent, Spends, cost_of, wait_of}
 
-all_append : {X : Type 0} (P : X → Type 0) (xs ys : List X) → All P xs → All P ys → All P (xs ++ ys)
-all_append P [] ys p q = q
-all_append P (x ∷ xs) ys p q = (p.0, all_append P xs ys p.1 q)
-
 pub spends_none : (t : ℕ) (j : List Entry) → Spends t 0 0 j j
-spends_none t j = record { entries = []; journal = sym (append-nil j); spent = record { own = tt; costs = omega arith; waits = omega arith } }
+spends_none t j = record { entries = []; journal = sym (append-nil j); spent = record { own = All-nil (λ e. thread_of e ≡ Some t); costs = omega arith; waits = omega arith } }
 
 pub spends_then : (t m n v w : ℕ) (a b d : List Entry) → Spends t m v a b → Spends t n w b d → Spends t (m + n) (v + w) a d
 spends_then t m n v w a b d p q =
@@ -35,7 +32,7 @@ spends_then t m n v w a b d p q =
       entries = p.entries ++ q.entries;
       journal = q.journal ∙ ap (λ j. j ++ q.entries) p.journal ∙ append_assoc a p.entries q.entries;
       spent = record {
-        own = all_append (λ e. thread_of e ≡ Some t) p.entries q.entries p.spent.own q.spent.own;
+        own = All-append (λ e. thread_of e ≡ Some t) p.entries q.entries p.spent.own q.spent.own;
         costs = omega (arith, costs, p.spent.costs, q.spent.costs);
         waits = omega (arith, waits, p.spent.waits, q.spent.waits);
       };
@@ -48,7 +45,7 @@ one : (t : ℕ) (j : List Entry) (e : Entry) → thread_of e ≡ Some t → Spen
 one t j e own =
     let costs = sum_by-cons cost_of e [] in
     let waits = sum_by-cons wait_of e [] in
-    record { entries = e ∷ []; journal = refl; spent = record { own = (own, tt); costs = omega (arith, costs); waits = omega (arith, waits) } }
+    record { entries = e ∷ []; journal = refl; spent = record { own = All-cons (λ x. thread_of x ≡ Some t) e [] own (All-nil (λ x. thread_of x ≡ Some t)); costs = omega (arith, costs); waits = omega (arith, waits) } }
 
 -- ---- what is made
 
@@ -168,13 +165,13 @@ free_spends t before after f = record { entries = f.entries; journal = f.journal
     nothing Dead h = absurd h
 
     sums : (es : List Entry) → All (IsFree t) es → AreSpent t 0 0 es
-    sums [] h = record { own = tt; costs = omega arith; waits = omega arith }
+    sums [] h = record { own = All-nil (λ e. thread_of e ≡ Some t); costs = omega arith; waits = omega arith }
     sums (e ∷ es) h =
-        let n = nothing e h.0 in
-        let rest = sums es h.1 in
+        let n = nothing e (All-head (IsFree t) e es h) in
+        let rest = sums es (All-tail (IsFree t) e es h) in
         let costs = sum_by-cons cost_of e es in
         let waits = sum_by-cons wait_of e es in
-        record { own = (n.0, rest.own); costs = omega (arith, costs, n.1, rest.costs); waits = omega (arith, waits, n.2, rest.waits) }
+        record { own = All-cons (λ x. thread_of x ≡ Some t) e es n.0 rest.own; costs = omega (arith, costs, n.1, rest.costs); waits = omega (arith, waits, n.2, rest.waits) }
 
 pub partly_spends : (t : ℕ) (old new : List Entry) (before after : ℕ) → TellsPartly t old new before after → Spends t 1 0 old new
 partly_spends t old new before after (inl q) = spends_more t 0 1 0 0 old new (omega arith) (omega arith) (free_spends t old new q.0)

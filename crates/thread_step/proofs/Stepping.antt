@@ -1,26 +1,35 @@
 -- One step of a worker's turn: what an entry leaves of a guest whose thread runs.
-use Rattle.std.proofs.Common.{◌≡◌, ℕ, ◌<◌, inl, inr, Bool, true, false, List, ◌++◌, Option, Some, None, IsSome, Result, Ok, Err, refl, sym, subst, ap, ◌∙◌}
+use Rattle.std.proofs.Common.{◌≡◌, ℕ, ◌<◌, ◌≤◌, inl, inr, Bool, true, false, List, ◌++◌, Option, Some, None, IsSome, Result, Ok, Err, refl, sym, subst, ap, ◌∙◌}
 use Rattle.std.specs.declared.alloc.AllocError.{AllocError}
 use Rattle.address_space.specs.Slots.{slot_of}
 use Rattle.journal_pack.specs.declared.entry.Entry.{Entry}
 use Rattle.lib_table.specs.Library.{is_unborn, life_at}
 use Rattle.machine_model.specs.Gated.{Leads, Stand, begin, stand_at}
+use Rattle.machine_model.specs.CaseData.{CaseData}
+use Rattle.machine_model.specs.Ready.{HasGrown}
 use Rattle.machine_model.specs.State.{is_live, thread_in}
 use Rattle.machine_model.proofs.Gates.{halfway, leads_same}
 use Rattle.machine_model.proofs.Own.{whole_from}
+use Rattle.machine_model.proofs.Reaches.{are_reaches, reach_of}
 use Rattle.hall_core.specs.Hall.{HallData, both, machine}
+use Rattle.guest_parts.specs.Guest.{IsWith}
 use Rattle.guest_parts.specs.Points.{point_at, waiting_of}
 use Rattle.guest_steps.specs.declared.own.Own.{Own}
-use Rattle.guest_steps.specs.Kept.{Table}
-use Rattle.guest_entries.specs.Entered.{turn_in}
+use Rattle.guest_steps.specs.Ages.{AreAges}
+use Rattle.guest_steps.specs.Kept.{AreKept, Table}
+use Rattle.guest_steps.specs.Own.{IsUnder, data_of}
+use Rattle.guest_entries.specs.Entered.{SettledBy, turn_in}
+use Rattle.guest_entries.proofs.Adding.{settle_free}
 use Rattle.guest_entries.specs.Steps.{Adds}
 use Rattle.thread_step.specs.declared.guest.Guest.{Guest}
 use Rattle.thread_step.specs.Context.{HallOf, Runs}
+use Rattle.thread_step.specs.Costs.{Spends}
 use Rattle.thread_step.specs.Guest.{IsReady, IsStanding}
 use Rattle.thread_step.specs.Turned.{Broke, EntryIs, Ready, Stayed, Went}
 use Rattle.thread_step.proofs.Lives.{LivesOrNone, lives_there, none_left, own_lives}
 use Rattle.thread_step.proofs.SlotTurn.{gone_ready, live_born, standing, still_born}
-use Rattle.thread_step.proofs.Whole.{entry_adds}
+use Rattle.thread_step.proofs.Spending.{acts_spends, acts_waits, free_spends}
+use Rattle.thread_step.proofs.Whole.{entry_adds, from_held, older}
 
 -- ---- what was added
 
@@ -33,6 +42,13 @@ pub step_case : (o : Result Bool AllocError) (h new : HallOf) (t : ℕ) (before 
 step_case (Ok true) h new t before after table d q = q.one.case
 step_case (Ok false) h new t before after table d q = q.one.case
 step_case (Err e) h new t before after table d q = q.case
+
+-- what was spent
+pub went_spends : (h new : HallOf) (t : ℕ) (before after : Own) (table : Table) (d : Stand) → Went h new t before after table d → Spends t 1 0 h.journal new.journal
+went_spends h new t before after table d q = acts_spends h.case (reach_of h.case.image) t (point_at q.one.k q.one.stop) (turn_in h before.ages) (turn_in new after.ages) q.one.rule (q.one.acts (reach_of h.case.image) (are_reaches h.case.image)) refl
+
+pub stayed_spends : (h new : HallOf) (t : ℕ) (before after : Own) (table : Table) (d : Stand) → Stayed h new t before after table d → Spends t 0 1 h.journal new.journal
+stayed_spends h new t before after table d q = acts_waits h.case (reach_of h.case.image) t (point_at q.one.k q.one.stop) (turn_in h before.ages) (waiting_of (both new) new.journal after.ages) q.one.rule (q.one.acts (reach_of h.case.image) (are_reaches h.case.image)) refl refl
 
 -- ---- the guest after it
 
@@ -76,3 +92,38 @@ module _ (h new : HallOf) (t : ℕ) (g after : Guest) (r : Runs h t g) (slot : a
       let live = r.ready.along.going.live in
       let one : LivesOrNone (both new) t = own_lives h.case (both h) (both new) t adds.entries (whole_from h.case (both h) h.journal leads) then adds.own (inl live) in
       gone_ready new t after its_slot low its_thread (none_left (both new) t one dead) (still_born h.case h.journal adds.entries (both h) (both new) t leads split (live_born (life_at (machine h).library t) live)) q.one.told (q.gone going dead)
+
+-- ---- a turn's end
+
+module _ (h held new : HallOf) (t hold : ℕ) (g : Guest) (ages : List ℕ) (r : Runs h t g) (is : held ≡ record h { spare = held.spare }) (few : hold ≤ 255) (young : AreAges hold ages) (q : SettledBy held new t hold (data_of g.own) ages r.stand) where
+  s : SettledBy h new t hold (data_of g.own) ages r.stand
+  s = from_held h held held.spare new t hold (data_of g.own) ages r.stand is q
+
+  pub settled_case : new.case ≡ h.case
+  settled_case = s.case
+
+  pub settled_going : (machine new).ending ≡ None
+  settled_going = s.going.going
+
+  pub settled_spends : Spends t 0 0 h.journal new.journal
+  settled_spends = free_spends t h.journal new.journal (settle_free h.case t hold (turn_in h g.own.ages) (turn_in new ages) s.is_settled)
+
+  pub settled_runs : Runs new t (record g { own = record g.own { ages = ages } })
+  settled_runs = record {
+    low = r.low;
+    slot = r.slot;
+    begun = r.begun;
+    lives = ap (thread_in (machine new)) (sym r.slot) ∙ lives_there (machine new) t s.going.live;
+    going = s.going.going;
+    stand = r.stand;
+    ready = record {
+      along = record {
+        going = s.going;
+        with = subst (λ c. IsWith c (both new) t (record (data_of g.own) { ages = ages }) r.stand) (sym s.case) s.with;
+        under = subst (λ c. IsUnder c.image g.own.at) (sym s.case) r.ready.along.under;
+        kept = subst (λ c. AreKept c.image (both new).gate.grown g.table.items) (sym s.case) (subst (λ x. AreKept h.case.image x g.table.items) (sym s.grown) r.ready.along.kept);
+      };
+      grown = subst (λ c. HasGrown c.image (both new) (slot_of t)) (sym s.case) (s.settled r.ready.grown);
+      fresh = older hold 255 ages few young;
+    };
+  }

@@ -175,14 +175,14 @@ module _ (h now : HallData Block) (t : ℕ) (r : Rules) (own mid : Own) (table :
 unheld : (now new : HallData Block) (spare t hold : ℕ) (g : GuestData) (ages : List ℕ) (e : Stand) → SettledBy (record now { spare = spare }) new t hold g ages e → SettledBy now new t hold g ages e
 unheld now new spare t hold g ages e s = record { case = s.case; going = s.going; with = s.with; grown = s.grown; settled = s.settled; is_settled = s.is_settled; marks = s.marks }
 
-from_held : (now held : HallData Block) (spare : ℕ) (new : HallData Block) (t hold : ℕ) (g : GuestData) (ages : List ℕ) (e : Stand) → held ≡ record now { spare = spare } → SettledBy held new t hold g ages e → SettledBy now new t hold g ages e
+pub from_held : (now held : HallData Block) (spare : ℕ) (new : HallData Block) (t hold : ℕ) (g : GuestData) (ages : List ℕ) (e : Stand) → held ≡ record now { spare = spare } → SettledBy held new t hold g ages e → SettledBy now new t hold g ages e
 from_held now held spare new t hold g ages e is s = unheld now new spare t hold g ages e (subst (λ z. SettledBy z new t hold g ages e) is s)
 
 pub stands_at : (c : CaseData) (b : Both) (slot k : ℕ) (e : Stand) → k ≡ 0 → IsAhead c b slot k e → e ≡ stand_at b slot
 unfolding gated_steps
 stands_at c b slot k e none ahead = sym (same_Some (stand_at b slot) e (subst (λ n. gated_steps c.image b.gate.grown n (stand_at b slot) ≡ Some e) none ahead))
 
-older : (a b : ℕ) (ages : List ℕ) → a ≤ b → AreAges a ages → AreAges b ages
+pub older : (a b : ℕ) (ages : List ℕ) → a ≤ b → AreAges a ages → AreAges b ages
 older a b [] le h = tt
 older a b (x ∷ ages) le h = (omega (arith, le, h.0), h.1)
 

@@ -84,7 +84,7 @@ LookedIs (looked.Lives t) h old new = Runs h t new
 -- one step of a turn, with the state as it was taken and as it is now
 abbrev pub SteppedIs : Stepped → HallOf → ℕ → Guest → Type 0
 SteppedIs stepped.On new t g = Runs new t g
-SteppedIs stepped.Waits new t g = Runs new t g
+SteppedIs stepped.Waits new t g = Runs new t g × (g.own.k ≡ 0)
 SteppedIs stepped.Gone new t g = ((machine new).ending ≡ None) × (is_live (machine new) t ≡ false) × IsReady new g
 SteppedIs stepped.Ended new t g = IsSome (machine new).ending × (g.slot < 64)
 SteppedIs (stepped.Memory e) new t g = IsStanding new g
@@ -139,12 +139,14 @@ pub record WorksIn (key : TableId) (p : Pass HallOf) (t : ℕ) (g : Guest) (h : 
   pub saw : Saw p h
   pub runs : Runs h t g
 
--- after a look
+-- after a look, before which nothing of the slot was added
 pub record LookedIn (a : Looked) (p : Pass HallOf) (old new : Guest) (h : HallOf) : Type 0 where
   pub hall : HallOf
   pub saw : Saw p hall
+  pub case : hall.case ≡ h.case
+  pub none : own old.slot hall.journal ≡ own old.slot h.journal
+  pub ready : IsReady hall old
   pub looked : LookedIs a hall old new
-  pub further : Further old.slot old.slot 0 0 h hall
 
 -- after steps of thread t
 pub record SteppedIn (a : Stepped) (p : Pass HallOf) (t most few : ℕ) (new : Guest) (h : HallOf) : Type 0 where
@@ -153,15 +155,18 @@ pub record SteppedIn (a : Stepped) (p : Pass HallOf) (t most few : ℕ) (new : G
   pub stepped : SteppedIs a hall t new
   pub further : Further new.slot t most few h hall
 
--- after a turn, which is of one thread of the slot
-pub record TurnedIn (a : Turned) (p : Pass HallOf) (most : ℕ) (new : Guest) (h : HallOf) : Type 0 where
+-- after a turn of thread t
+pub record TurnedBy (a : Turned) (p : Pass HallOf) (t most : ℕ) (new : Guest) (h : HallOf) : Type 0 where
   pub hall : HallOf
   pub saw : Saw p hall
   pub left : IsLeft a hall new
-  pub thread : ℕ
-  pub slot : slot_of thread ≡ new.slot
-  pub further : Further new.slot thread most 1 h hall
+  pub slot : slot_of t ≡ new.slot
+  pub further : Further new.slot t most 1 h hall
   pub cause : Cause a h hall new
+
+-- a turn is of one thread of the slot
+abbrev pub TurnedIn : Turned → Pass HallOf → ℕ → Guest → HallOf → Type 0
+TurnedIn a p most new h = (t : ℕ) × TurnedBy a p t most new h
 
 -- ---- contexts
 
@@ -182,3 +187,6 @@ pub record TookTurn (a : Turned) (key : TableId) (most : ℕ) (old new : Context
 
 abbrev pub context_slot : Context → ℕ
 context_slot ctx = ctx.guest.slot
+
+abbrev pub context_pass : Context → Option (Pass HallOf)
+context_pass ctx = ctx.pass

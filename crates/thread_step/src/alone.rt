@@ -14,10 +14,10 @@ ghost use Rattle.thread_step.specs.Guest.{IsLeft, IsReady, guest_slot, private_s
 ghost use Rattle.guest_entries.specs.Steps.{instruction_steps};
 ghost use Rattle.thread_step.specs.Turned.{AreRules};
 
+use crate::entries::{has_ended, turn};
 use crate::guest::Guest;
 use crate::rules::{Rules, Turned};
 use guest_entries::Lifter;
-use crate::turn::{has_ended, turn};
 use guest_parts::Engine;
 use hall_core::Hall;
 use ir_syntax::Block;

@@ -12,11 +12,11 @@ ghost use Rattle.guest_steps.specs.Kept.{AreKept, Table};
 ghost use Rattle.thread_step.specs.Guest.{IsNewborn, IsReady, guest_ages, guest_slot, private_steps, starting_core};
 ghost use Rattle.thread_step.specs.Turned.{Ready};
 
+use address_space::stack_top;
+use guest_state::Virtual;
 use guest_steps::ages::Ages;
 use guest_steps::kept::Kept;
 use guest_steps::own::{Own, Position};
-use address_space::stack_top;
-use guest_state::Virtual;
 use hall_core::Hall;
 use ir_syntax::Block;
 use lib_table::Birth;

@@ -10,9 +10,9 @@
 
 mod alone;
 mod context;
+mod entries;
 mod guest;
 mod rules;
-mod turn;
 mod worker;
 
 pub use alone::turn_alone;

@@ -1,21 +1,22 @@
 //! A turn of a worker's thread: its private steps are made without the shared state, which it takes for each entry and gives
 //! back at once.
 
-ghost use Rattle.std.specs.Prelude.{◌≡◌, ◌<◌, ◌≤◌, ℕ, None};
+ghost use Rattle.std.specs.Prelude.{◌≡◌, ◌≢◌, ◌<◌, ◌≤◌, ℕ, None};
 ghost use Rattle.address_space.specs.Slots.{slot_of};
 ghost use Rattle.turn_lock.specs.Lock.{lock_id};
 ghost use Rattle.turn_lock.specs.Words.{held_lock, held_number, held_value, lock_of, pass_number};
 ghost use Rattle.machine_model.specs.Gated.{Leads, Stand, begin};
 ghost use Rattle.hall_core.specs.Hall.{both, machine};
 ghost use Rattle.thread_step.specs.Costs.{Spends};
-ghost use Rattle.thread_step.specs.Context.{Cause, GoesOn, HallOf, HoldsIn, IsContext, IsTaken, LookedIn, LookedIs, Runs, Saw, SteppedIn, SteppedIs, TookTurn, TurnedIn, WorksIn, Wrote, context_slot, cost_in, wait_in};
+ghost use Rattle.thread_step.specs.Context.{Cause, GoesOn, HallOf, HoldsIn, IsContext, IsTaken, LookedIn, LookedIs, Runs, Saw, SteppedIn, SteppedIs, TookTurn, TurnedBy, TurnedIn, WorksIn, Wrote, context_slot, cost_in, wait_in};
+ghost use Rattle.thread_step.specs.declared.rules.Turned.TheVariants as turned;
 ghost use Rattle.thread_step.specs.Guest.{IsLeft, IsReady};
 ghost use Rattle.thread_step.specs.Turned.{AreRules, Ready};
 
 use crate::context::Context;
+use crate::entries::{entry, has_ended, make_place};
 use crate::guest::Guest;
 use crate::rules::{Gate, Rules, Turned};
-use crate::turn::{entry, has_ended, make_place};
 use guest_entries::Lifter;
 use guest_entries::settle::settle;
 use guest_parts::Engine;
@@ -211,7 +212,7 @@ fn steps<R: Wait, L: Lifter, N: Engine, G: Gate>(
     ensures lock { lock_of result.0 ≡ lock_id lock.now }
     ensures number { pass_number result.0 ≡ pass_number pass }
     ensures slot { guest.new.slot ≡ guest.old.slot }
-    ensures stepped { (h : HallOf) → WorksIn (lock_id lock.now) pass t guest.old h → SteppedIn result.1 result.0 t budget 1 guest.new h }
+    ensures stepped { (h : HallOf) → WorksIn (lock_id lock.now) pass t guest.old h → SteppedIn result.1 result.0 t budget (wait_in result.1) guest.new h }
 {
     let mut pass = pass;
     for _i in 0..budget {
@@ -235,7 +236,8 @@ fn grow_older(guest: &mut Guest, hall: &mut Hall<Block>, t: u32, hold: u32) -> T
     ensures case { hall.new.case ≡ hall.old.case }
     ensures spends { Spends t 0 0 hall.old.journal hall.new.journal }
     ensures left { IsLeft result hall.new guest.new }
-    ensures cause { Cause result hall.old hall.new guest.new }
+    ensures cause { (h : HallOf) → Cause result h hall.new guest.new }
+    ensures lives { result ≢ turned.Idle }
 {
     if has_ended(hall) {
         return Turned::Ended;
@@ -262,7 +264,8 @@ fn finish<R: Wait>(
     ensures lock { lock_of result.0 ≡ lock_id lock.now }
     ensures number { pass_number result.0 ≡ pass_number pass }
     ensures slot { guest.new.slot ≡ guest.old.slot }
-    ensures left { (h : HallOf) → WorksIn (lock_id lock.now) pass t guest.old h → TurnedIn result.1 result.0 0 guest.new h }
+    ensures left { (h : HallOf) → WorksIn (lock_id lock.now) pass t guest.old h → TurnedBy result.1 result.0 t 0 guest.new h }
+    ensures lives { result.1 ≢ turned.Idle }
 {
     let mut held = take(rt, lock, pass);
     let turned = grow_older(guest, held.value(), t, hold);
@@ -287,7 +290,7 @@ fn run<R: Wait, L: Lifter, N: Engine, G: Gate>(
     ensures lock { lock_of result.0 ≡ lock_id lock.now }
     ensures number { pass_number result.0 ≡ pass_number pass }
     ensures slot { guest.new.slot ≡ guest.old.slot }
-    ensures left { (h : HallOf) → WorksIn (lock_id lock.now) pass t guest.old h → TurnedIn result.1 result.0 rules.turn guest.new h }
+    ensures left { (h : HallOf) → WorksIn (lock_id lock.now) pass t guest.old h → TurnedBy result.1 result.0 t rules.turn guest.new h }
 {
     let (pass, stepped) = steps(
         rt, lock, pass, guest, t, lifter, engine, gate, made, rules.turn,
@@ -324,9 +327,7 @@ fn turn_with<R: Wait, L: Lifter, N: Engine, G: Gate>(
     match looked {
         Looked::Ended => (pass, Turned::Ended),
         Looked::Idle => (pass, Turned::Idle),
-        Looked::Lives(t) => run(
-            rt, lock, pass, guest, t, lifter, engine, gate, made, rules,
-        ),
+        Looked::Lives(t) => run(rt, lock, pass, guest, t, lifter, engine, gate, made, rules),
     }
 }
 

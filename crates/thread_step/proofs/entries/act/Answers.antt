@@ -2,7 +2,7 @@ use Rattle.guest_entries.specs.Entered.{Entered}
 use Rattle.thread_step.specs.Turned.{ActIs, StopsIn, rule_of}
 use Rattle.std.proofs.Common.{sym, subst}
 use Rattle.thread_step.proofs.Turning.{call_acts}
-use Rattle.thread_step.proofs.turn.act.Goals as goal
+use Rattle.thread_step.proofs.entries.act.Goals as goal
 
 pub returns-in-Limit : goal.returns-in-Limit
 returns-in-Limit g c = λ d s.

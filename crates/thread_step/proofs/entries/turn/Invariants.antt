@@ -4,7 +4,7 @@ use Rattle.guest_parts.specs.Running.{Rises}
 use Rattle.guest_entries.specs.Steps.{instruction_steps}
 use Rattle.thread_step.specs.Turned.{Ready}
 use Rattle.thread_step.proofs.Whole.{OnTheWay}
-use Rattle.thread_step.proofs.turn.turn.Given as goal
+use Rattle.thread_step.proofs.entries.turn.Given as goal
 
 abbrev pub invariant-loop-i : goal.invariant-loop-i
 invariant-loop-i g l = record {

@@ -3,7 +3,7 @@ use Rattle.std.proofs.Common.{refl, sym, subst}
 use Rattle.ir_syntax.specs.declared.request.Request.TheVariants as ask
 use Rattle.ir_syntax.specs.declared.width.Width.TheVariants as ir_size
 use Rattle.guest_entries.specs.Entered.{StoresBy}
-use Rattle.thread_step.proofs.turn.ask.Goals as goal
+use Rattle.thread_step.proofs.entries.ask.Goals as goal
 
 pub returns-in-Load : goal.returns-in-Load
 returns-in-Load c = λ v d q.

@@ -4,7 +4,7 @@ use Rattle.thread_step.proofs.Turning.{along_held, came_stops, entry_failed, ent
 use Rattle.guest_parts.proofs.Runs.{rises_none}
 use Rattle.guest_entries.specs.Steps.{instruction_steps}
 use Rattle.thread_step.proofs.Counting.{entry_counts, held_counts, held_same, rises_less}
-use Rattle.thread_step.proofs.turn.entry.Goals as goal
+use Rattle.thread_step.proofs.entries.entry.Goals as goal
 
 pub returns-in_err-make_place-clause-entry : goal.returns-in_err-make_place-clause-entry
 returns-in_err-make_place-clause-entry g c = λ d ready. entry_failed c.from_residual.result c.args.hall.now c.make_place.new.hall c.args.t c.args.own.now c.args.own.now c.args.table.now.items d c.from_residual.ensures.0 (nothing_made c.args.hall.now c.make_place.new.hall c.args.t c.args.own.now c.args.own.now c.args.table.now.items c.args.table.now.items d d ready c.make_place.ensures.same (along_held c.args.hall.now c.make_place.new.hall c.args.t c.args.own.now c.args.table.now.items d c.make_place.ensures.same ready.along) refl)

@@ -5,7 +5,7 @@ use Rattle.thread_step.proofs.Turning.{along_held}
 use Rattle.thread_step.proofs.Whole.{begins_way, breaks, dies, ends, goes_on, no_place, none_end, settles, waits}
 use Rattle.guest_parts.proofs.Runs.{rises_none}
 use Rattle.thread_step.proofs.Counting.{count_then, held_same, rises_less, settled_counts}
-use Rattle.thread_step.proofs.turn.turn.Goals as goal
+use Rattle.thread_step.proofs.entries.turn.Goals as goal
 
 pub loop-i-init : goal.loop-i-init
 loop-i-init g c = record {

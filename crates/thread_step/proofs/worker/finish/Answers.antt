@@ -1,0 +1,31 @@
+use Rattle.std.proofs.Common.{◌<◌, refl, sym, subst, arith, ◌∙◌}
+use Rattle.turn_lock.specs.Words.{pass_number}
+use Rattle.thread_step.specs.Context.{GoesOn, Wrote}
+use Rattle.thread_step.proofs.Furthering.{further_by, further_more, spends_wrote, taken_as}
+use Rattle.thread_step.proofs.Staying.{runs_on}
+use Rattle.thread_step.proofs.worker.finish.Goals as goal
+
+pub grow_older-turned-requires-clause-runs : goal.grow_older-turned-requires-clause-runs
+grow_older-turned-requires-clause-runs g c = λ on.
+    let w = c.requires.works in
+    let goes = subst (GoesOn (pass_number c.args.pass) w.0) (sym c.value.ensures.value) (c.take-held.ensures.goes w.0 w.1.saw) in
+    runs_on (pass_number c.args.pass) (subst (λ z. z < 64) (sym w.1.number) w.1.runs.low) w.0 c.value.result.now goes c.args.t c.args.guest.now (sym w.1.number) on w.1.runs
+
+pub give-requires-clause-wrote : goal.give-requires-clause-wrote
+give-requires-clause-wrote g c =
+    let w = c.requires.works in
+    (c.value.result.now, taken_as c.take-held.result _ c.value.result.now refl c.value.ensures.value c.take-held.ensures.taken, subst (λ n. Wrote n c.value.result.now c.grow_older-turned.new.hall) (sym c.take-held.ensures.number) (spends_wrote (pass_number c.args.pass) c.args.t 0 0 c.value.result.now c.grow_older-turned.new.hall (w.1.runs.slot ∙ sym w.1.number) c.grow_older-turned.ensures.case c.grow_older-turned.ensures.spends))
+
+pub returns-clause-left : goal.returns-clause-left
+returns-clause-left g c = λ h w.
+    let goes = subst (GoesOn (pass_number c.args.pass) h) (sym c.value.ensures.value) (c.take-held.ensures.goes h w.saw) in
+    let slot = c.grow_older-turned.ensures.slot in
+    let number = w.number ∙ sym slot in
+    record {
+      hall = c.grow_older-turned.new.hall;
+      saw = c.give.ensures.saw;
+      left = c.grow_older-turned.ensures.left;
+      slot = w.runs.slot ∙ sym slot;
+      further = further_more _ c.args.t 0 0 0 1 h c.grow_older-turned.new.hall (omega arith) (omega arith) (further_by _ c.args.t 0 0 h c.value.result.now c.grow_older-turned.new.hall (w.runs.slot ∙ sym slot) (subst (λ s. GoesOn s h c.value.result.now) number goes) c.grow_older-turned.ensures.case c.grow_older-turned.ensures.spends);
+      cause = c.grow_older-turned.ensures.cause h;
+    }

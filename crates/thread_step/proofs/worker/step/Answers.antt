@@ -1,0 +1,30 @@
+use Rattle.std.proofs.Common.{◌<◌, refl, sym, subst, ◌∙◌}
+use Rattle.turn_lock.specs.Words.{pass_number}
+use Rattle.thread_step.specs.Context.{GoesOn, Wrote, cost_in, wait_in}
+use Rattle.thread_step.proofs.Furthering.{further_by, spends_wrote, taken_as}
+use Rattle.thread_step.proofs.Staying.{runs_on}
+use Rattle.thread_step.proofs.worker.step.Goals as goal
+
+pub step_in-stepped-requires-clause-runs : goal.step_in-stepped-requires-clause-runs
+step_in-stepped-requires-clause-runs g c = λ κs within on.
+    let w = c.requires.works in
+    let goes = subst (GoesOn (pass_number c.args.pass) w.0) (sym c.value.ensures.value) (c.take-held.ensures.goes w.0 w.1.saw) in
+    let r = c.go_ahead.ensures.runs w.0 c.args.t w.1.runs in
+    runs_on (pass_number c.args.pass) (subst (λ z. z < 64) (sym w.1.number) w.1.runs.low) w.0 c.value.result.now goes c.args.t c.go_ahead.new.guest (c.go_ahead.ensures.slot ∙ sym w.1.number) on r
+
+pub give-requires-clause-wrote : goal.give-requires-clause-wrote
+give-requires-clause-wrote g c =
+    let w = c.requires.works in
+    (c.value.result.now, taken_as c.take-held.result _ c.value.result.now refl c.value.ensures.value c.take-held.ensures.taken, subst (λ n. Wrote n c.value.result.now c.step_in-stepped.new.hall) (sym c.take-held.ensures.number) (spends_wrote (pass_number c.args.pass) c.args.t (cost_in c.step_in-stepped.result) (wait_in c.step_in-stepped.result) c.value.result.now c.step_in-stepped.new.hall (w.1.runs.slot ∙ sym w.1.number) c.step_in-stepped.ensures.case c.step_in-stepped.ensures.spends))
+
+pub returns-clause-stepped : goal.returns-clause-stepped
+returns-clause-stepped g c = λ h w.
+    let goes = subst (GoesOn (pass_number c.args.pass) h) (sym c.value.ensures.value) (c.take-held.ensures.goes h w.saw) in
+    let slot = c.step_in-stepped.ensures.slot ∙ c.go_ahead.ensures.slot in
+    let number = w.number ∙ sym slot in
+    record {
+      hall = c.step_in-stepped.new.hall;
+      saw = c.give.ensures.saw;
+      stepped = c.step_in-stepped.ensures.stepped;
+      further = further_by _ c.args.t (cost_in c.step_in-stepped.result) (wait_in c.step_in-stepped.result) h c.value.result.now c.step_in-stepped.new.hall (w.runs.slot ∙ sym slot) (subst (λ s. GoesOn s h c.value.result.now) number goes) c.step_in-stepped.ensures.case c.step_in-stepped.ensures.spends;
+    }

@@ -1,0 +1,26 @@
+use Rattle.std.proofs.Common.{refl, sym, subst, ◌∙◌}
+use Rattle.std.proofs.lemmas.Option.{same_Some}
+use Rattle.turn_lock.specs.Lock.{lock_id}
+use Rattle.thread_step.specs.Context.{HoldsIn}
+use Rattle.thread_step.proofs.worker.turn.Goals as goal
+
+pub turn_with-pass-requires-clause-holds : goal.turn_with-pass-requires-clause-holds
+turn_with-pass-requires-clause-holds g c κs within =
+    let x = c.requires.context in
+    let same = same_Some x.1.pass c.in-Some.pass (sym x.1.there ∙ sym c.take.ensures.value ∙ c.in-Some.is) in
+    (x.0, subst (λ p. HoldsIn (lock_id c.args.lock.now) p c.args.ctx.now.guest x.0) same x.1.holds)
+
+pub returns : goal.returns
+returns g c = record {
+  took = λ h x.
+      let same = same_Some x.pass c.in-Some.pass (sym x.there ∙ sym c.take.ensures.value ∙ c.in-Some.is) in
+      let holds = subst (λ p. HoldsIn (lock_id c.args.lock.now) p c.args.ctx.now.guest h) same x.holds in
+      record {
+        pass = c.turn_with-pass.result.0;
+        there = refl;
+        lock = c.turn_with-pass.ensures.lock;
+        number = c.turn_with-pass.ensures.number ∙ holds.number ∙ sym c.turn_with-pass.ensures.slot;
+        slot = c.turn_with-pass.ensures.slot;
+        turned = c.turn_with-pass.ensures.left h holds;
+      };
+}
