@@ -1,5 +1,5 @@
 -- A guest that goes ahead by private steps.
-use Rattle.std.proofs.Common.{◌≡◌, ℕ, ◌+◌, ◌-◌, ◌≤◌, inl, inr, length, Some, refl, sym, ap, arith, ◌∙◌}
+use Rattle.std.proofs.Common.{◌≡◌, ℕ, ◌-◌, ◌≤◌, inl, inr, length, Some, sym, ap, arith, ◌∙◌}
 use Rattle.address_space.specs.Slots.{slot_of}
 use Rattle.machine_model.specs.CaseData.{CaseData}
 use Rattle.machine_model.specs.Gated.{Both, Stand, gated_steps, stand_at}

@@ -1,7 +1,6 @@
 -- What a turn adds, beside entries of other slots.
 use Rattle.std.proofs.Common.{◌≡◌, ◌≢◌, ℕ, ◌+◌, ◌<◌, ◌≤◌, ◌==◌, true, List, [], ◌∷◌, ◌++◌, Some, refl, sym, subst, ap, ◌∙◌, arith, append-nil}
 use Rattle.std.specs.Prelude.{All}
-use Rattle.std.specs.List.{filter, sum_by}
 use Rattle.std.proofs.lemmas.Bool.Decides.{nat_tests}
 use Rattle.std.proofs.lemmas.List.{append_assoc}
 use Rattle.std.proofs.lemmas.List.Elements.{All-append, All-cons, All-head, All-nil, All-tail, filter-append}
@@ -12,7 +11,6 @@ use Rattle.journal_pack.specs.declared.entry.Entry.TheVariants.{Ev, Tick, Flush,
 use Rattle.journal_pack.specs.Entry.{thread_of}
 use Rattle.turn_lock.specs.declared.pass.Held.{Held}
 use Rattle.turn_lock.specs.declared.pass.Pass.{Pass}
-use Rattle.turn_lock.specs.Journal as story
 use Rattle.turn_lock.specs.Rule.{case_of, seen_of}
 use Rattle.turn_lock.specs.Words.{held_value}
 use Rattle.machine_model.specs.Play.{own}
@@ -24,7 +22,7 @@ use Rattle.thread_step.specs.declared.rules.Turned.TheVariants.{Ended, Idle, Mem
 use Rattle.thread_step.specs.declared.worker.Stepped.{Stepped}
 use Rattle.thread_step.specs.declared.worker.Stepped.TheVariants as stepped
 use Rattle.thread_step.specs.Context.{Cause, Further, GoesOn, HallOf, IsTaken, SteppedIn, TurnedBy, Wrote, case_in, cost_in, journal_in, wait_in}
-use Rattle.thread_step.specs.Costs.{AreSpent, Spends, cost_of, wait_of}
+use Rattle.thread_step.specs.Costs.{Spends, cost_of, wait_of}
 
 -- an entry of a thread bears its slot's number
 slot_is : (t : ℕ) (e : Entry) → thread_of e ≡ Some t → slot_in e ≡ slot_of t

@@ -1,7 +1,6 @@
 -- What an entry of a turn costs of its budget.
-use Rattle.std.proofs.Common.{◌≡◌, ℕ, zero, suc, ◌+◌, ◌≤◌, Bool, true, false, List, [], ◌∷◌, ◌++◌, length, Option, Some, None, refl, sym, subst, ap, ◌∙◌, inl, inr, arith, append-nil}
-use Rattle.std.specs.Prelude.{All, option_and_then, nat_le, ◌==◌, not}
-use Rattle.std.specs.List.{sum_by}
+use Rattle.std.proofs.Common.{◌≡◌, ℕ, zero, suc, ◌+◌, ◌≤◌, Bool, true, false, List, [], ◌∷◌, ◌++◌, length, Some, refl, sym, subst, ap, ◌∙◌, inl, inr, arith, append-nil}
+use Rattle.std.specs.Prelude.{All}
 use Rattle.std.proofs.lemmas.List.{append_assoc}
 use Rattle.std.proofs.lemmas.List.Elements.{All-append, All-cons, All-head, All-nil, All-tail}
 use Rattle.std.proofs.lemmas.List.Sums.{sum_by-append, sum_by-cons}
@@ -12,13 +11,12 @@ use Rattle.journal_pack.specs.declared.entry.Entry.{Entry}
 use Rattle.journal_pack.specs.declared.entry.Entry.TheVariants.{Ev, Tick, Flush, Wait, Miss, Grow, Over, Full, Dead}
 use Rattle.journal_pack.specs.Entry.{thread_of}
 use Rattle.machine_model.specs.CaseData.{CaseData}
-use Rattle.machine_model.specs.Serial.{AtEvent, AtLimit, AtMiss, AtMost, GoesOn, Point, Reaches, Rule, Turn, act, after_miss, event, event_by, flush, flush_some, flushed_before, full_or, grow_all, grow_if, grow_reach, make, miss, told_waiting, ungrown}
+use Rattle.machine_model.specs.Serial.{AtEvent, AtLimit, AtMiss, AtMost, GoesOn, Point, Reaches, Rule, Turn, act, after_miss, event, event_by, flush, flush_some, flushed_before, full_or, grow_all, grow_if, grow_reach, make, told_waiting, ungrown}
 use Rattle.machine_model.specs.State.{list_at}
 use Rattle.machine_model.specs.Step.{waits_at}
 use Rattle.machine_model.proofs.SerialGated.{made}
-use Rattle.machine_laws.specs.Others.{AreOf}
 use Rattle.guest_entries.specs.Entered.{TellsPartly}
-use Rattle.guest_entries.specs.Steps.{AddsFree, AddsMiss, IsFree}
+use Rattle.guest_entries.specs.Steps.{AddsFree, IsFree}
 use Rattle.thread_step.specs.Costs.{AreSpent, Spends, cost_of, wait_of}
 
 pub spends_none : (t : ℕ) (j : List Entry) → Spends t 0 0 j j

@@ -1,17 +1,13 @@
 -- A guest and its thread, after entries of other slots.
-use Rattle.std.proofs.Common.{◌≡◌, ◌≢◌, ℕ, ◌<◌, inl, inr, true, false, List, [], ◌∷◌, ◌++◌, Option, Some, None, IsSome, refl, sym, subst, ap, ◌∙◌, ◌==◌}
-use Rattle.std.specs.List.{filter}
+use Rattle.std.proofs.Common.{◌≡◌, ℕ, ◌<◌, inl, inr, false, List, [], ◌∷◌, ◌++◌, Option, Some, None, IsSome, refl, sym, subst, ap, ◌∙◌, ◌==◌}
 use Rattle.std.proofs.lemmas.List.{append_cancel_left, append-nil}
 use Rattle.std.proofs.lemmas.List.Elements.{filter-append}
 use Rattle.std.proofs.lemmas.Option.{none-some}
-use Rattle.address_space.specs.Slots.{slot_of}
-use Rattle.ir_syntax.specs.declared.block.Block.{Block}
 use Rattle.journal_pack.specs.declared.entry.Entry.{Entry}
 use Rattle.lib_table.specs.Library.{is_unborn, life_at}
 use Rattle.turn_lock.specs.declared.pass.Pass.{Pass}
-use Rattle.turn_lock.specs.declared.pass.Held.{Held}
 use Rattle.turn_lock.specs.Journal as story
-use Rattle.turn_lock.specs.Words.{held_value, pass_case, pass_number, pass_seen}
+use Rattle.turn_lock.specs.Words.{pass_case, pass_number, pass_seen}
 use Rattle.machine_model.specs.declared.ending.RunEnd.{RunEnd}
 use Rattle.machine_model.specs.CaseData.{CaseData}
 use Rattle.machine_model.specs.Gated.{Both, Leads, Stand, begin}
@@ -23,11 +19,10 @@ use Rattle.machine_model.proofs.Gates.{grows, halfway, leads_same}
 use Rattle.machine_model.proofs.Own.{made_of, whole_from}
 use Rattle.machine_laws.specs.Others.{IsBorn, IsSame, Leaves}
 use Rattle.machine_laws.proofs.Leaving.{entries_law}
-use Rattle.hall_core.specs.Hall.{HallData, both, machine}
+use Rattle.hall_core.specs.Hall.{both, machine}
 use Rattle.thread_step.specs.declared.guest.Guest.{Guest}
 use Rattle.thread_step.specs.Context.{GoesOn, HallOf, Runs, Saw, case_in, journal_in}
-use Rattle.thread_step.specs.Guest.{IsReady, StandsWith}
-use Rattle.thread_step.specs.Turned.{Ready}
+use Rattle.thread_step.specs.Guest.{IsReady}
 use Rattle.thread_step.proofs.OtherGuests.{grown_same, leads_walks, ready_born, ready_same, stands_same}
 use Rattle.guest_steps.specs.Ages.{AreAges}
 use Rattle.guest_steps.specs.Ahead.{Strode}

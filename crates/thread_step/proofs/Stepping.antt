@@ -1,17 +1,15 @@
 -- One step of a worker's turn: what an entry leaves of a guest whose thread runs.
-use Rattle.std.proofs.Common.{◌≡◌, ℕ, ◌<◌, ◌≤◌, inl, inr, Bool, true, false, List, ◌++◌, Option, Some, None, IsSome, Result, Ok, Err, refl, sym, subst, ap, ◌∙◌}
+use Rattle.std.proofs.Common.{◌≡◌, ℕ, ◌<◌, ◌≤◌, inl, Bool, true, false, List, Some, None, Result, Ok, Err, refl, sym, subst, ap, ◌∙◌}
 use Rattle.std.specs.declared.alloc.AllocError.{AllocError}
 use Rattle.address_space.specs.Slots.{slot_of}
-use Rattle.journal_pack.specs.declared.entry.Entry.{Entry}
-use Rattle.lib_table.specs.Library.{is_unborn, life_at}
+use Rattle.lib_table.specs.Library.{life_at}
 use Rattle.machine_model.specs.Gated.{Leads, Stand, begin, stand_at}
-use Rattle.machine_model.specs.CaseData.{CaseData}
 use Rattle.machine_model.specs.Ready.{HasGrown}
 use Rattle.machine_model.specs.State.{is_live, thread_in}
 use Rattle.machine_model.proofs.Gates.{halfway, leads_same}
 use Rattle.machine_model.proofs.Own.{whole_from}
 use Rattle.machine_model.proofs.Reaches.{are_reaches, reach_of}
-use Rattle.hall_core.specs.Hall.{HallData, both, machine}
+use Rattle.hall_core.specs.Hall.{both, machine}
 use Rattle.guest_parts.specs.Guest.{IsWith}
 use Rattle.guest_parts.specs.Points.{point_at, waiting_of}
 use Rattle.guest_steps.specs.declared.own.Own.{Own}

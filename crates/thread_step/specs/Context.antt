@@ -1,5 +1,5 @@
 -- A guest with a pass to the shared state, and what other threads' entries leave of it.
-use Rattle.std.specs.Prelude.{◌≡◌, ◌≢◌, ◌<◌, ℕ, true, false, List, [], ◌++◌, Option, Some, None, IsSome}
+use Rattle.std.specs.Prelude.{◌≡◌, ◌<◌, ℕ, false, List, [], ◌++◌, Option, Some, None, IsSome}
 use Rattle.atomic_table.specs.Seated.{TableId}
 use Rattle.address_space.specs.Slots.{slot_of}
 use Rattle.ir_syntax.specs.declared.block.Block.{Block}
@@ -14,7 +14,6 @@ use Rattle.machine_model.specs.Play.{own}
 use Rattle.machine_model.specs.State.{is_live, thread_in}
 use Rattle.machine_model.specs.Step.{slot_in}
 use Rattle.hall_core.specs.Hall.{HallData, both, machine}
-use Rattle.guest_entries.specs.Steps.{Adds}
 use Rattle.thread_step.specs.declared.guest.Guest.{Guest}
 use Rattle.thread_step.specs.declared.context.Context.{Context}
 use Rattle.thread_step.specs.declared.rules.Turned.{Turned}

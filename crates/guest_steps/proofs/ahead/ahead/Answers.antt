@@ -19,9 +19,9 @@ stride-requires-clause-along g c κs within =
 pub loop-preserved : goal.loop-preserved
 loop-preserved g c = record {
   far = λ k b t d h.
-    let s = c.loop.invariant.far k b t d h in
-    let n = c.stride.ensures.ahead k b t s.0 s.1.along in
-    (n.0, strode_then k b t c.args.own.now c.loop.own c.stride.new.own c.loop.table.items c.stride.new.table.items d s.0 n.0 s.1 n.1);
+      let s = c.loop.invariant.far k b t d h in
+      let n = c.stride.ensures.ahead k b t s.0 s.1.along in
+      (n.0, strode_then k b t c.args.own.now c.loop.own c.stride.new.own c.loop.table.items c.stride.new.table.items d s.0 n.0 s.1 n.1);
   later = omega (arith, c.loop.invariant.later, c.stride.ensures.later);
   count = rises_then _ _ _ c.args.own.now.k c.loop.own.k c.stride.new.own.k c.loop.invariant.count c.stride.ensures.count;
 }

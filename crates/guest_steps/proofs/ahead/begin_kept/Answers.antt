@@ -1,4 +1,4 @@
-use Rattle.std.proofs.Common.{◌≡◌, true, refl, subst}
+use Rattle.std.proofs.Common.{◌≡◌, true, subst}
 use Rattle.basic_blocks.specs.Reach.{is_among}
 use Rattle.guest_steps.proofs.Moves.{along_inside, along_table}
 use Rattle.guest_steps.proofs.ahead.begin_kept.Goals as goal

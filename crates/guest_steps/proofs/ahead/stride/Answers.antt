@@ -1,6 +1,5 @@
-use Rattle.std.proofs.Common.{refl, sym, subst, ap, arith, ◌∙◌}
+use Rattle.std.proofs.Common.{ap}
 use Rattle.guest_steps.specs.declared.own.Own.{Own}
-use Rattle.guest_steps.specs.Ahead.{Strode}
 use Rattle.guest_steps.proofs.Striding.{stands_still, strode_then}
 use Rattle.guest_steps.proofs.ahead.stride.Goals as goal
 
