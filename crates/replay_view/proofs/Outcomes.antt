@@ -1,4 +1,4 @@
--- A journal that is followed has no fault.
+-- A journal that is followed is played, and has no fault.
 use Rattle.std.proofs.Common.{◌≡◌, ℕ, zero, suc, ◌<◌, true, false, List, [], ◌∷◌, Some, None, refl, sym, ap, ◌∙◌, subst, arith, take}
 use Rattle.std.specs.Prelude.{slice_get, option_and_then}
 use Rattle.std.proofs.lemmas.Option.{none-some}
@@ -8,7 +8,9 @@ use Rattle.machine_model.specs.Gated.{Both, advance, begin, with_machine}
 use Rattle.machine_model.specs.Step.{step}
 use Rattle.replay_view.specs.declared.fault.EntryFault.{EntryFault}
 use Rattle.replay_view.specs.declared.fault.EntryFault.TheVariants.{NoStep, NotGated, Crowded}
-use Rattle.replay_view.specs.Follow.{Fits, FitsIn, Follows, IsTaken, OneAnswer}
+use Rattle.replay_view.specs.Follow.{Fits, FitsIn, FollowedIsPlayed, Follows, IsTaken, OneAnswer}
+use Rattle.replay_view.proofs.Walked.{leads}
+use Rattle.machine_model.proofs.Gates.{leads_play}
 
 no_advance : (c : CaseData) (b y : Both) (e : Entry) → IsTaken c b e y → step c b.machine e ≡ None → ⊥
 unfolding advance
@@ -36,3 +38,6 @@ unmatched c b n m (x ∷ es) (suc p) (suc k) at e fault h lt g here fits =
 
 pub one_answer : OneAnswer
 one_answer c journal n p b fault h lt f = unmatched c (begin c) b f.both journal p n p f.entry fault h lt f.before f.here f.fits
+
+pub followed_is_played : FollowedIsPlayed
+followed_is_played c entries b h = let way = leads c (begin c) b entries h in (way, leads_play c b entries way)

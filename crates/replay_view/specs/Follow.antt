@@ -2,7 +2,8 @@
 use Rattle.std.specs.Prelude.{◌≡◌, ℕ, ◌+◌, ◌<◌, ◌≤◌, ◌^◌, true, false, List, [], ◌∷◌, length, take, slice_get, Option, Some, None, is_some, ⊤}
 use Rattle.journal_pack.specs.declared.entry.Entry.{Entry}
 use Rattle.machine_model.specs.CaseData.{CaseData}
-use Rattle.machine_model.specs.Gated.{Both, IsAllowed, advance, begin}
+use Rattle.machine_model.specs.Gated.{Both, IsAllowed, Leads, advance, begin}
+use Rattle.machine_model.specs.Play.{play}
 use Rattle.machine_model.specs.Step.{step}
 use Rattle.replay_view.specs.declared.fault.EntryFault.{EntryFault}
 use Rattle.replay_view.specs.declared.fault.EntryFault.TheVariants.{NoStep, NotGated, Crowded}
@@ -64,6 +65,12 @@ pub record FitsIn (c : CaseData) (journal : List Entry) (fault : EntryFault) (p 
   pub before : Follows c (begin c) (take p journal) both
   pub here : slice_get journal p ≡ Some entry
   pub fits : Fits c both entry p fault
+
+-- ---- what the definitions come to
+
+-- what is followed is played, and gated all the way
+abbrev pub FollowedIsPlayed : Type 0
+FollowedIsPlayed = (c : CaseData) (entries : List Entry) (b : Both) → Follows c (begin c) entries b → Leads c (begin c) entries b × (play c entries ≡ Some b.machine)
 
 -- a journal that is followed for n entries has no fault below n
 abbrev pub OneAnswer : Type 0

@@ -5,10 +5,10 @@ ghost use Rattle.guest_map.specs.Layout.{IsAccepted};
 
 use crate::tests::programs::{Program, image};
 use guest_map::lay_out;
-use journal_pack::{Entry, Journal, pack};
+use journal_pack::{Entry, GrowingJournal, Journal};
 use machine_model::case::Case;
 use machine_model::ending::RunEnd;
-use replay_view::{EntryFault, FollowFault, walk_to};
+use replay_view::{EntryFault, FollowFault, StepFault, Walker, walk_to};
 use std::alloc::Global;
 use std::process::Abort;
 use std::sync::Arc;
@@ -69,27 +69,55 @@ fn is_laid_out(alloc: Global, case: &Case) -> bool
     }
 }
 
-// What comes of the first entries of a journal, all of them where no number is given.
-pub fn follow(
-    alloc: Global,
-    case: &Case,
-    entries: &[Entry],
-    n: Option<u64>,
-) -> Result<Outcome, Fail>
+// The journal of these entries, if each of them has a spelling.
+pub fn journal_of(alloc: Global, entries: &[Entry]) -> Result<Option<Journal>, Fail> {
+    let mut journal = GrowingJournal::new(alloc);
+    for entry in entries {
+        if !entry.has_spelling() {
+            return Ok(None);
+        }
+        journal.reserve(1)?;
+        journal.push(*entry);
+    }
+    Ok(Some(journal.into_journal()))
+}
+
+fn stands(walker: &Walker<'_>) -> Outcome {
+    at(walker.steps(), walker.grown(), walker.ending())
+}
+
+// What comes of the first entries of a journal.
+pub fn follow(alloc: Global, case: &Case, journal: &Journal, n: u64) -> Result<Outcome, Fail>
     requires { case.now.limit ≤ 2 ^ 27 }
 {
-    let journal = Journal::from_bytes(pack(alloc, entries)?)
-        .ok()
-        .ok_or("it is read")?;
     if !is_laid_out(alloc, case) {
         return Err("it is laid out".into());
     }
-    match walk_to(alloc, case, &journal, n.unwrap_or(journal.len())) {
-        Ok(walker) => Ok(at(walker.steps(), walker.grown(), walker.ending())),
+    match walk_to(alloc, case, journal, n) {
+        Ok(walker) => Ok(stands(&walker)),
         Err(fault) => Ok(Outcome::Refused(fault)),
     }
 }
 
+// What comes of entries that are taken one after another.
+fn take(alloc: Global, case: &Case, entries: &[Entry]) -> Result<Outcome, Fail>
+    requires { case.now.limit ≤ 2 ^ 27 }
+{
+    if !is_laid_out(alloc, case) {
+        return Err("it is laid out".into());
+    }
+    let mut walker = Walker::make(alloc, case)?;
+    for entry in entries {
+        match walker.step(alloc, entry) {
+            Ok(()) => {}
+            Err(StepFault::Entry(fault)) => return Ok(refused(fault)),
+            Err(StepFault::Memory(e)) => return Err(e.into()),
+        }
+    }
+    Ok(stands(&walker))
+}
+
+// A row's entries are a journal, and come to what is expected.
 pub fn expect(
     rt: &impl Abort,
     alloc: Global,
@@ -103,7 +131,22 @@ pub fn expect(
         entries.push(*entry)?;
     }
     entries.extend_from_slice(rest)?;
-    let told = follow(alloc, &case(alloc, start)?, &entries, None)?;
+    let journal = journal_of(alloc, &entries)?.ok_or("it is spelled")?;
+    let told = follow(alloc, &case(alloc, start)?, &journal, journal.len())?;
     assert!(rt; told == wanted, "{name}: {told:?}");
+    Ok(())
+}
+
+// The same of entries one of which no journal spells.
+pub fn expect_unspelled(
+    rt: &impl Abort,
+    alloc: Global,
+    start: Start<'_>,
+    entries: &[Entry],
+    wanted: Outcome,
+) -> Result<(), Fail> {
+    assert!(rt; journal_of(alloc, entries)?.is_none());
+    let told = take(alloc, &case(alloc, start)?, entries)?;
+    assert!(rt; told == wanted, "{told:?}");
     Ok(())
 }

@@ -1,7 +1,9 @@
 //! Journals that are runs, and journals that are none: which entry, and why. What is expected was computed by a model that was
 //! written before, from the rules alone.
 
-use crate::tests::following::{Outcome, Row, at, case, expect, follow, refused};
+use crate::tests::following::{
+    Outcome, Row, Start, at, case, expect, expect_unspelled, follow, journal_of, refused,
+};
 use crate::tests::programs::{BARRIER, CROWD, ONCE, ORDER, P1, P2, P3, P7, P8, STORES};
 use EntryFault::{Crowded, NoStep, NotGated};
 use journal_pack::Entry::{self, Dead, Ev, Flush, Full, Grow, Miss, Over, Tick, Wait};
@@ -21,7 +23,7 @@ const MISSED: MissData = MissData {
 
 #[test]
 fn one_block(rt: HostRuntime) -> Result<(), Fail> {
-    let rows: [Row; 15] = [
+    let rows: [Row; 14] = [
         ("the run", 0, &[Ev(0, 2)], at(3, 1, Some(RunEnd::Exit(7)))),
         (
             "a call with one step left out",
@@ -53,7 +55,6 @@ fn one_block(rt: HostRuntime) -> Result<(), Fail> {
             &[Tick(0, 2), Ev(0, 0)],
             at(3, 1, Some(RunEnd::Exit(7))),
         ),
-        ("no private steps", 0, &[Tick(0, 0)], refused(NoStep(0))),
         ("no write waits", 0, &[Flush(0)], refused(NoStep(0))),
         (
             "a flush of an unborn thread",
@@ -117,15 +118,30 @@ fn the_limit_of_steps(rt: HostRuntime) -> Result<(), Fail> {
 }
 
 #[test]
-fn too_many_private_steps(rt: HostRuntime) -> Result<(), Fail> {
-    let rows: [Row; 1] = [(
-        "more private steps than there may be",
-        0,
-        &[Tick(0, 4097)],
-        refused(NoStep(0)),
-    )];
-    for row in rows {
-        expect(&rt, rt.alloc(), (&P1, &[0x40_1000], 10000, false), &[], row)?;
+fn entries_that_no_journal_spells(rt: HostRuntime) -> Result<(), Fail> {
+    let locked: [Entry; 6] = [Ev(0, 1), Flush(0), Ev(0, 0), Ev(0, 1), Flush(0), Wait(0, 0)];
+    let rows: [(Start<'_>, &[Entry], Outcome); 3] = [
+        // no private steps
+        (
+            (&P1, &[0x40_1000], 100, false),
+            &[Tick(0, 0)],
+            refused(NoStep(0)),
+        ),
+        // more of them than there may be
+        (
+            (&P1, &[0x40_1000], 10000, false),
+            &[Tick(0, 4097)],
+            refused(NoStep(0)),
+        ),
+        // a wait without a step
+        (
+            (&P7, &[0x40_1000, 0x40_100a, 0x40_1014], 100, false),
+            &locked,
+            refused(NoStep(5)),
+        ),
+    ];
+    for (start, entries, wanted) in rows {
+        expect_unspelled(&rt, rt.alloc(), start, entries, wanted)?;
     }
     Ok(())
 }
@@ -469,7 +485,7 @@ fn two_threads(rt: HostRuntime) -> Result<(), Fail> {
 #[test]
 fn a_mutex(rt: HostRuntime) -> Result<(), Fail> {
     let run: [Entry; 6] = [Ev(0, 1), Flush(0), Ev(0, 0), Ev(0, 1), Flush(0), Dead];
-    let rows: [Row; 4] = [
+    let rows: [Row; 3] = [
         (
             "a mutex of one thread, twice",
             6,
@@ -482,12 +498,6 @@ fn a_mutex(rt: HostRuntime) -> Result<(), Fail> {
             4,
             &[Dead],
             refused(NoStep(4)),
-        ),
-        (
-            "a wait without a step",
-            5,
-            &[Wait(0, 0)],
-            refused(NoStep(5)),
         ),
     ];
     for row in rows {
@@ -703,7 +713,8 @@ fn a_part_of_a_journal(rt: HostRuntime) -> Result<(), Fail> {
     ];
     let case = case(rt.alloc(), (&P1, &[0x40_1000], 100, false))?;
     for (entries, n, wanted) in rows {
-        let told = follow(rt.alloc(), &case, entries, Some(n))?;
+        let journal = journal_of(rt.alloc(), entries)?.ok_or("it is spelled")?;
+        let told = follow(rt.alloc(), &case, &journal, n)?;
         assert!(rt; told == wanted, "{n}: {told:?}");
     }
     Ok(())
