@@ -1,10 +1,9 @@
 -- Blocks under way, and private steps in them.
-use Rattle.std.proofs.Common.{◌≡◌, ◌≢◌, ℕ, zero, suc, ◌+◌, ◌-◌, ◌%◌, ◌^◌, ◌<◌, ◌≤◌, Bool, true, false, cond, List, [], ◌∷◌, Option, Some, None, refl, sym, ap, ◌∙◌, arith, length, add-one, ◌&&◌}
-use Rattle.std.specs.Prelude.{◌==◌, nat_lt, is_none, option_and_then}
+use Rattle.std.proofs.Common.{◌≡◌, ℕ, zero, suc, ◌+◌, ◌-◌, ◌<◌, Bool, true, false, List, [], ◌∷◌, Option, Some, None, refl, sym, ap, ◌∙◌, arith, add-one, ◌&&◌}
+use Rattle.std.specs.Prelude.{◌==◌, nat_lt, option_and_then}
 use Rattle.std.proofs.lemmas.Bool.Decides.{nat_tests}
 use Rattle.elf_image.specs.Layout.{ImageData}
 use Rattle.x86_forms.specs.declared.instructions.Instr.{Instr}
-use Rattle.x86_forms.specs.Groups.{is_transfer}
 use Rattle.x86_model.specs.declared.cpu.Cpu.{Cpu}
 use Rattle.x86_model.specs.Want.{want}
 use Rattle.journal_pack.specs.declared.entry.Entry.TheVariants.{Ev}

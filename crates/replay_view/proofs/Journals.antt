@@ -1,14 +1,13 @@
 -- A journal, entry by entry.
-use Rattle.std.proofs.Common.{◌≡◌, ℕ, zero, suc, ◌+◌, ◌<◌, ◌≤◌, List, [], ◌∷◌, ◌++◌, Some, refl, sym, ap, ◌∙◌, subst, arith, length, take, drop, add-one}
+use Rattle.std.proofs.Common.{◌≡◌, ℕ, zero, suc, ◌<◌, ◌≤◌, List, [], ◌∷◌, ◌++◌, Some, refl, sym, ap, ◌∙◌, subst, arith, length, take, drop, add-one}
 use Rattle.std.specs.Prelude.{slice_get}
 use Rattle.journal_pack.specs.declared.entry.Entry.{Entry}
 use Rattle.machine_model.specs.CaseData.{CaseData}
 use Rattle.machine_model.specs.Gated.{begin}
-use Rattle.replay_view.specs.declared.fault.EntryFault.{EntryFault}
 use Rattle.replay_view.specs.declared.fault.StepFault.{StepFault}
 use Rattle.replay_view.specs.declared.fault.StepFault.TheVariants as step_fault
 use Rattle.replay_view.specs.Faults.{FitsStep, FollowFaults, following}
-use Rattle.replay_view.specs.Follow.{Fits, FitsIn, Follows, HasTaken, TakesOne, WalkData}
+use Rattle.replay_view.specs.Follow.{Fits, Follows, HasTaken, TakesOne, WalkData}
 use Rattle.replay_view.proofs.Walked.{one_more}
 
 take_none : (j : List Entry) → take 0 j ≡ []

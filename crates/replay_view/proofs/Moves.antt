@@ -1,5 +1,5 @@
 -- What an entry comes to, from what is known before anything changes.
-use Rattle.std.proofs.Common.{◌≡◌, ℕ, ◌≤◌, Bool, true, false, cond, List, [], ◌∷◌, Option, Some, None, refl, sym, ap, ◌∙◌, subst, ◌&&◌, ◌↔◌, slice_set}
+use Rattle.std.proofs.Common.{◌≡◌, ℕ, ◌≤◌, Bool, true, false, cond, List, Option, Some, None, refl, sym, ap, ◌∙◌, subst, ◌&&◌, ◌↔◌, slice_set}
 use Rattle.std.specs.Prelude.{IfSome, IfNone, is_none, is_some, nat_le, option_and_then, option_map, IsTrue}
 use Rattle.std.proofs.lemmas.Bool.Decides.{nat_tests}
 use Rattle.std.proofs.Common.{arith}
@@ -11,16 +11,13 @@ use Rattle.x86_model.specs.Want.{want}
 use Rattle.journal_pack.specs.Entry.{private_of, thread_of}
 use Rattle.journal_pack.specs.declared.entry.Entry.{Entry}
 use Rattle.journal_pack.specs.declared.entry.Entry.TheVariants.{Ev, Tick, Flush, Wait, Miss, Grow, Over, Full, Dead}
-use Rattle.basic_blocks.specs.Places.{is_code_place}
-use Rattle.basic_blocks.specs.Reach.{is_among}
 use Rattle.machine_model.specs.CaseData.{CaseData}
 use Rattle.machine_model.specs.State.{Machine, is_live}
 use Rattle.machine_model.specs.Step.{admits, after_private, answered, cpu_at, lives, slot_in, step, step_from}
-use Rattle.machine_model.specs.Gated.{Both, Gate, Spot, Stand, IsAllowed, advance, entered, gate_with, gated_steps, grown_by, is_between, may_miss, most_grown, onward, pass, spot_after, spot_at, spot_last, spot_with, with_gate, with_machine, Other}
+use Rattle.machine_model.specs.Gated.{Both, Gate, Spot, Stand, IsAllowed, advance, entered, gate_with, gated_steps, grown_by, onward, pass, spot_after, spot_at, spot_last, spot_with, with_gate, with_machine, Other}
 use Rattle.replay_view.specs.Follow.{IsTaken, MayCome}
 use Rattle.replay_view.specs.declared.gate.Position.{Position}
 use Rattle.replay_view.specs.Gates.{position_of, settled}
-use Rattle.replay_view.specs.Grown.{led_to}
 use Rattle.replay_machine.specs.Machines.{crowds, is_crowded, overfills_by}
 use Rattle.replay_view.specs.Moments.{IsBarred, IsBegun, IsPlaced, gated_from}
 

@@ -1,5 +1,5 @@
 -- A journal that is followed is played, and has no fault.
-use Rattle.std.proofs.Common.{◌≡◌, ℕ, zero, suc, ◌<◌, true, false, List, [], ◌∷◌, Some, None, refl, sym, ap, ◌∙◌, subst, arith, take}
+use Rattle.std.proofs.Common.{◌≡◌, ℕ, zero, suc, ◌<◌, true, false, List, [], ◌∷◌, Some, None, sym, ap, ◌∙◌, subst, arith, take}
 use Rattle.std.specs.Prelude.{slice_get, option_and_then}
 use Rattle.std.proofs.lemmas.Option.{none-some}
 use Rattle.journal_pack.specs.declared.entry.Entry.{Entry}
@@ -8,7 +8,7 @@ use Rattle.machine_model.specs.Gated.{Both, advance, begin, with_machine}
 use Rattle.machine_model.specs.Step.{step}
 use Rattle.replay_view.specs.declared.fault.EntryFault.{EntryFault}
 use Rattle.replay_view.specs.declared.fault.EntryFault.TheVariants.{NoStep, NotGated, Crowded}
-use Rattle.replay_view.specs.Follow.{Fits, FitsIn, FollowedIsPlayed, Follows, IsTaken, OneAnswer}
+use Rattle.replay_view.specs.Follow.{Fits, FollowedIsPlayed, Follows, IsTaken, OneAnswer}
 use Rattle.replay_view.proofs.Walked.{leads}
 use Rattle.machine_model.proofs.Gates.{leads_play}
 

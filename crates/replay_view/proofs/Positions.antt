@@ -1,8 +1,8 @@
 -- Positions of threads, slot by slot.
-use Rattle.std.proofs.Common.{◌≡◌, ℕ, zero, suc, ◌+◌, ◌<◌, ◌≤◌, List, [], ◌∷◌, ◌++◌, refl, sym, ap, ◌∙◌, arith, length, get_or, map, replicate, slice_set}
+use Rattle.std.proofs.Common.{◌≡◌, ℕ, ◌+◌, ◌<◌, ◌≤◌, List, [], ◌∷◌, ◌++◌, sym, ap, ◌∙◌, arith, length, get_or, map, replicate, slice_set}
 use Rattle.std.proofs.lemmas.List.{get_or-map, map-append, map-set, set_past, get_or_past, length-map, replicate_more}
 use Rattle.elf_image.specs.Layout.{ImageData}
-use Rattle.machine_model.specs.Gated.{Spot, no_spot}
+use Rattle.machine_model.specs.Gated.{no_spot}
 use Rattle.replay_view.specs.declared.gate.Position.{Position}
 use Rattle.replay_view.specs.Gates.{position_of}
 

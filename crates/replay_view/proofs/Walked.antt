@@ -1,17 +1,15 @@
 -- The entries that a walker has taken.
-use Rattle.std.proofs.Common.{◌≡◌, ℕ, zero, suc, ◌+◌, ◌-◌, ◌*◌, ◌<◌, ◌≤◌, ◌^◌, true, false, List, [], ◌∷◌, ◌++◌, Some, None, refl, sym, ap, ◌∙◌, subst, arith, length, take, drop, get_or, add-one, length-append}
-use Rattle.std.specs.Prelude.{slice_get}
+use Rattle.std.proofs.Common.{◌≡◌, ℕ, ◌+◌, ◌*◌, ◌≤◌, ◌^◌, true, List, [], ◌∷◌, ◌++◌, Some, None, refl, sym, ap, ◌∙◌, subst, arith, length, length-append}
 use Rattle.journal_pack.specs.declared.entry.Entry.{Entry}
 use Rattle.machine_model.specs.CaseData.{CaseData}
-use Rattle.machine_model.specs.State.{Machine, is_live}
-use Rattle.machine_model.specs.Gated.{Both, IsGated, Leads, advance, begin}
+use Rattle.machine_model.specs.State.{is_live}
+use Rattle.machine_model.specs.Gated.{Both, Leads, begin}
 use Rattle.machine_model.specs.Play.{play}
 use Rattle.machine_model.proofs.Calls.{calls_played, can_ask}
 use Rattle.machine_model.proofs.Counts.{numbers_played}
 use Rattle.machine_model.proofs.Costs.{bounded}
 use Rattle.machine_model.proofs.Gates.{leads_play}
-use Rattle.replay_view.specs.declared.fault.EntryFault.{EntryFault}
-use Rattle.replay_view.specs.Follow.{Fits, FitsIn, Follows, HasTaken, IsTaken, IsWalked, MayCome, TakesOne, WalkData}
+use Rattle.replay_view.specs.Follow.{Follows, HasTaken, IsTaken, IsWalked, TakesOne, WalkData}
 use Rattle.replay_machine.specs.Machines.{CanServe}
 
 -- what is followed is gated

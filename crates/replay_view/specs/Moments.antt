@@ -1,5 +1,5 @@
 -- What an entry comes to, as the walker finds it out before anything changes.
-use Rattle.std.specs.Prelude.{◌≡◌, ℕ, true, false, List, Option, Some, None, is_some}
+use Rattle.std.specs.Prelude.{◌≡◌, true, Option, Some, is_some}
 use Rattle.x86_model.specs.declared.cpu.Cpu.{Cpu}
 use Rattle.x86_model.specs.declared.want.Want.{Want}
 use Rattle.x86_model.specs.Want.{want}
@@ -7,14 +7,12 @@ use Rattle.journal_pack.specs.Entry.{private_of}
 use Rattle.journal_pack.specs.declared.entry.Entry.{Entry}
 use Rattle.machine_model.specs.CaseData.{CaseData}
 use Rattle.machine_model.specs.State.{Machine}
-use Rattle.machine_model.specs.Gated.{Both, Gate, Spot, Stand, IsAllowed, gated_steps, spot_after, spot_at}
-use Rattle.machine_model.specs.Step.{admits, after_private, answered, cpu_at, slot_in, step, step_from}
+use Rattle.machine_model.specs.Gated.{Both, Spot, Stand, IsAllowed, gated_steps, spot_after, spot_at}
+use Rattle.machine_model.specs.Step.{admits, after_private, answered, cpu_at, slot_in, step_from}
 use Rattle.elf_image.specs.Layout.{ImageData}
 use Rattle.replay_view.specs.declared.moment.Moment.{Moment}
 use Rattle.replay_view.specs.Follow.{MayCome}
 use Rattle.replay_view.specs.Gates.{gate_of}
-use Rattle.replay_machine.specs.Machines.{is_crowded, overfills_by}
-use Rattle.replay_view.specs.Grown.{led_to}
 
 -- the machine with its gate, as they are kept
 abbrev pub both_of : ImageData → Moment → Both

@@ -1,4 +1,4 @@
-use Rattle.std.proofs.Common.{◌≡◌, ◌∙◌, ◌+◌, ◌%◌, ◌^◌, ap, sym}
+use Rattle.std.proofs.Common.{◌∙◌, ◌+◌, ◌%◌, ◌^◌, ap, sym}
 use Rattle.x86_model.specs.Want.{want_of}
 use Rattle.machine_model.specs.Step.{privately}
 use Rattle.replay_view.proofs.Wants.{want_at}

@@ -1,7 +1,7 @@
-use Rattle.std.proofs.Common.{◌≡◌, ◌∙◌, ◌↔◌, ap, subst}
+use Rattle.std.proofs.Common.{◌∙◌, ◌↔◌, ap, subst}
 use Rattle.std.specs.Prelude.{IfOk, IsTrue}
-use Rattle.machine_model.specs.Gated.{IsGrowth, Latest, Spot, spot_at}
-use Rattle.replay_view.specs.Gates.{gate_of, latest_of}
+use Rattle.machine_model.specs.Gated.{IsGrowth, Spot, spot_at}
+use Rattle.replay_view.specs.Gates.{gate_of}
 use Rattle.replay_view.proofs.gate.Gate.allows.Goals as goal
 
 pub returns-in-Grow-clause-is : goal.returns-in-Grow-clause-is

@@ -1,5 +1,5 @@
-use Rattle.std.proofs.Common.{◌≡◌, ◌∙◌, ap, subst, Some}
-use Rattle.machine_model.specs.Gated.{Both, Gate, grown_by}
+use Rattle.std.proofs.Common.{◌≡◌, subst}
+use Rattle.machine_model.specs.Gated.{Both}
 use Rattle.replay_view.specs.Gates.{gate_of, position_of, settled}
 use Rattle.replay_view.specs.Moments.{both_of}
 use Rattle.replay_view.proofs.Moves.{gate_settled, going, living, taken}

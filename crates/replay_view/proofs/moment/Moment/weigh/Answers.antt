@@ -1,4 +1,4 @@
-use Rattle.std.proofs.Common.{◌≡◌, ◌∙◌, ap, sym, true}
+use Rattle.std.proofs.Common.{◌≡◌, ◌∙◌, sym, true}
 use Rattle.machine_model.specs.Gated.{Both}
 use Rattle.replay_view.specs.Gates.{position_of}
 use Rattle.replay_machine.specs.Machines.{overfills_by}

@@ -1,4 +1,4 @@
-use Rattle.std.proofs.Common.{◌≡◌, ◌+◌, ◌≤◌, ◌∙◌, ap, arith, subst, true}
+use Rattle.std.proofs.Common.{◌≡◌, ◌+◌, ◌≤◌, ap, arith, subst, true}
 use Rattle.machine_model.specs.Gated.{Both}
 use Rattle.replay_view.specs.Follow.{IsTaken, MayCome, WalkData}
 use Rattle.replay_machine.specs.Machines.{is_crowded}
