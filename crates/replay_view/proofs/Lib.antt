@@ -1,0 +1,11 @@
+pub mod Rests
+pub mod Wants
+pub mod Positions
+pub mod Keeping
+pub mod Journals
+pub mod Walked
+pub mod Moves
+pub mod Places
+pub mod Growths
+pub mod Blocks
+pub mod Outcomes
