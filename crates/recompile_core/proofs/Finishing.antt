@@ -17,13 +17,12 @@ use Rattle.machine_model.specs.declared.ending.RunEnd.{RunEnd}
 use Rattle.mx_outside.specs.Bytes.{AppendsPrefix}
 use Rattle.mx_outside.specs.Causes.{Rose}
 use Rattle.ir_runner.specs.Outputs.{Gains, GainsBy, GainsPart, HoldsPart, Written, written}
-use Rattle.ir_runner.specs.Runs.{BeginsSerial}
 use Rattle.recompile_core.specs.declared.files.Unwritten.{Unwritten}
 use Rattle.recompile_core.specs.declared.files.Unwritten.TheVariants as unwritten
 use Rattle.recompile_core.specs.declared.run.Came.{Came}
 use Rattle.recompile_core.specs.declared.run.Came.TheVariants as came
 use Rattle.recompile_core.specs.After.{ErrAfter, FilesAfter, GainsOrFails, Leaves, OutAfter, Wrote, part_and_line, with_files}
-use Rattle.recompile_core.specs.Answer.{Ends}
+use Rattle.recompile_core.specs.Answer.{BeginsOrder, Ends, InOrder}
 use Rattle.recompile_core.specs.Runs.{AskedFiles, Breaks, CameTo, Closes, Finished, IsMade, Played, RunsTo, Told, WriteFailed, ending_by, has_failed, settled}
 use Rattle.recompile_core.specs.World.{FilesNow}
 use Rattle.recompile_core.proofs.Writing.{files_same}
@@ -87,27 +86,28 @@ module _ (b0 b1 b2 : ℕ) (h0 h1 h2 : Option (List ℕ)) where
 
 -- ---- a run and its end
 
-begins-so : (c : CaseData) (r : serial.Rules) (journal : List Entry) → IsSerial c r journal → BeginsSerial c r journal
-begins-so c r journal s = ([], subst (IsSerial c r) (sym (append-nil journal)) s)
+begins-so : (c : CaseData) (o : Option serial.Rules) (journal : List Entry) → InOrder o c journal → BeginsOrder o c journal
+begins-so c None journal s = tt
+begins-so c (Some r) journal s = ([], subst (IsSerial c r) (sym (append-nil journal)) s)
 
-module _ (c : CaseData) (r : serial.Rules) (journal : List Entry) (f g : FilesNow) (a b : Option (List ℕ)) (out : Written) (b0 b1 b2 : ℕ) (h0 h1 h2 : Option (List ℕ)) where
+module _ (c : CaseData) (order : Option serial.Rules) (journal : List Entry) (f g : FilesNow) (a b : Option (List ℕ)) (out : Written) (b0 b1 b2 : ℕ) (h0 h1 h2 : Option (List ℕ)) where
   abbrev Run-so : Ending → Type 0
-  Run-so e = Played c r journal e f g out (sink b0 b2 h0 h2) a b
+  Run-so e = Played c order journal e f g out (sink b0 b2 h0 h2) a b
 
   abbrev Made : Came → Type 0
-  Made how = IsMade c r journal how out (sink b0 b1 h0 h1)
+  Made how = IsMade c order journal how out (sink b0 b1 h0 h1)
 
-  to-run : {how : Came} (m : Made how) (e : RunEnd) → RunsTo c r journal e f g out (sink b0 b2 h0 h2) a b → Run-so (Run e)
+  to-run : {how : Came} (m : Made how) (e : RunEnd) → RunsTo c order journal e f g out (sink b0 b2 h0 h2) a b → Run-so (Run e)
   to-run m e x = record { gated = m.gated; by_ending = inl (e, refl, x) }
 
-  to-fault : {how : Came} (m : Made how) → WriteFailed f g out (sink b0 b2 h0 h2) → Breaks c r journal WriteFault f g out (sink b0 b2 h0 h2) a b → Run-so WriteFault
+  to-fault : {how : Came} (m : Made how) → WriteFailed f g out (sink b0 b2 h0 h2) → Breaks c order journal WriteFault f g out (sink b0 b2 h0 h2) a b → Run-so WriteFault
   to-fault m x y = record { gated = m.gated; by_ending = inr (inl (refl, x, y)) }
 
-  to-memory : {how : Came} (m : Made how) → Breaks c r journal Memory f g out (sink b0 b2 h0 h2) a b → Run-so Memory
+  to-memory : {how : Came} (m : Made how) → Breaks c order journal Memory f g out (sink b0 b2 h0 h2) a b → Run-so Memory
   to-memory m y = record { gated = m.gated; by_ending = inr (inr (refl, y)) }
 
   -- the line of `Memory`, after all of the outputs or a part of them
-  memory-after : {how : Came} (m : Made how) (n : ℕ) (whole : Bool) → BeginsSerial c r journal → AppendsPrefix out.old out.new m.machine.library.out1 → Gains (sink b0 b1 h0 h1) (take n m.machine.library.out2) → FilesAfter f g a b journal → LastLine whole b1 b2 h1 h2 (line_of Memory) → Run-so Memory
+  memory-after : {how : Came} (m : Made how) (n : ℕ) (whole : Bool) → BeginsOrder order c journal → AppendsPrefix out.old out.new m.machine.library.out1 → Gains (sink b0 b1 h0 h1) (take n m.machine.library.out2) → FilesAfter f g a b journal → LastLine whole b1 b2 h1 h2 (line_of Memory) → Run-so Memory
   memory-after m n whole begins o p files l = to-memory m (record {
     leaves = record { machine = m.machine; played = m.played; left_out = o; left_err = memory-line b0 b1 b2 h0 h1 h2 m.machine n whole (line-on b0 b1 b2 h0 h1 h2 (take n m.machine.library.out2) (line_of Memory) whole p l); ended = tt };
     begins = begins;
@@ -118,7 +118,7 @@ module _ (c : CaseData) (r : serial.Rules) (journal : List Entry) (f g : FilesNo
   all-taken bytes p = subst (Gains (sink b0 b1 h0 h1)) (sym (take-length bytes)) p
 
   -- the line of `WriteFault`, after all of the outputs
-  fault-after : {how : Came} (m : Made how) (whole : Bool) → BeginsSerial c r journal → GainsOrFails out m.machine.library.out1 → Gains (sink b0 b1 h0 h1) m.machine.library.out2 → FilesAfter f g a b journal → WriteFailed f g out (sink b0 b2 h0 h2) → (Rose out.before out.now ⊎ (Rose b0 b2 ⊎ IsSome m.machine.ending)) → LastLine whole b1 b2 h1 h2 (line_of WriteFault) → Run-so WriteFault
+  fault-after : {how : Came} (m : Made how) (whole : Bool) → BeginsOrder order c journal → GainsOrFails out m.machine.library.out1 → Gains (sink b0 b1 h0 h1) m.machine.library.out2 → FilesAfter f g a b journal → WriteFailed f g out (sink b0 b2 h0 h2) → (Rose out.before out.now ⊎ (Rose b0 b2 ⊎ IsSome m.machine.ending)) → LastLine whole b1 b2 h1 h2 (line_of WriteFault) → Run-so WriteFault
   fault-after m whole begins o p files cause ended l = to-fault m cause (record {
     leaves = record { machine = m.machine; played = m.played; left_out = o; left_err = fault-line b0 b1 b2 h0 h1 h2 m.machine whole (line-on b0 b1 b2 h0 h1 h2 m.machine.library.out2 (line_of WriteFault) whole p l); ended = ended };
     begins = begins;
@@ -136,7 +136,7 @@ module _ (c : CaseData) (r : serial.Rules) (journal : List Entry) (f g : FilesNo
       let p = line-on b0 b1 b2 h0 h1 h2 m.machine.library.out2 (line_of (Run e)) false m.came.3 l in
       to-fault m (inr (inl p.0)) (record {
         leaves = record { machine = m.machine; played = m.played; left_out = inl m.came.2; left_err = run-line b0 b1 b2 h0 h1 h2 m.machine e m.came.1 p; ended = inr (inl p.0) };
-        begins = begins-so c r journal m.came.0;
+        begins = begins-so c order journal m.came.0;
         files = files;
       })
 
@@ -147,7 +147,7 @@ module _ (c : CaseData) (r : serial.Rules) (journal : List Entry) (f g : FilesNo
   -- what was shown, after a run to an ending
   ended-told : (e : RunEnd) (m : Made (came.Ended e)) (left : Result (Unit {0}) Unwritten) (ending : Ending) → AskedFiles (came.Ended e) left f g a b journal → Told (ending_by (came.Ended e) left) ending (sink b1 b2 h1 h2) → Run-so ending
   ended-told e m (Ok u) ending asked t =
-      let s = begins-so c r journal m.came.0 in
+      let s = begins-so c order journal m.came.0 in
       let P : Ending → Type 0 = λ x. LastLine t.whole b1 b2 h1 h2 (line_of x) in
       let Q : Ending → Type 0 = λ x. ending ≡ settled x t.whole in
       elim t.which [
@@ -155,7 +155,7 @@ module _ (c : CaseData) (r : serial.Rules) (journal : List Entry) (f g : FilesNo
         | inr x ↦ subst Run-so (sym (subst Q x t.final_is)) (memory-after m _ t.whole s (whole-prefix out.old out.new m.machine.library.out1 m.came.2.1) (all-taken m.machine.library.out2 m.came.3) asked.1 (subst P x t.line))
       ]
   ended-told e m (Err unwritten.Failed) ending asked t =
-      let s = begins-so c r journal m.came.0 in
+      let s = begins-so c order journal m.came.0 in
       let P : Ending → Type 0 = λ x. LastLine t.whole b1 b2 h1 h2 (line_of x) in
       let Q : Ending → Type 0 = λ x. ending ≡ settled x t.whole in
       elim t.which [
@@ -163,7 +163,7 @@ module _ (c : CaseData) (r : serial.Rules) (journal : List Entry) (f g : FilesNo
         | inr x ↦ subst Run-so (sym (subst Q x t.final_is)) (memory-after m _ t.whole s (whole-prefix out.old out.new m.machine.library.out1 m.came.2.1) (all-taken m.machine.library.out2 m.came.3) asked.1 (subst P x t.line))
       ]
   ended-told e m (Err unwritten.Memory) ending asked t =
-      let s = begins-so c r journal m.came.0 in
+      let s = begins-so c order journal m.came.0 in
       let P : Ending → Type 0 = λ x. LastLine t.whole b1 b2 h1 h2 (line_of x) in
       let Q : Ending → Type 0 = λ x. ending ≡ settled x t.whole in
       let is : t.shown ≡ Memory = elim t.which [ inl x ↦ x | inr x ↦ x ] in
@@ -210,7 +210,7 @@ module _ (c : CaseData) (r : serial.Rules) (journal : List Entry) (f g : FilesNo
   finished-by came.Memory ending m x = memory-told m ending x.asked x.closes
 
 -- what a run and its end come to together
-pub played_by : {S : Type 0} (faults : S → ℕ) (held : S → Option (List ℕ)) (x y z : S) (c d : CaseData) (r : serial.Rules) (journal last : List Entry) (how : Came) (ending : Ending) (f g : FilesNow) (a b : Option (List ℕ)) (out : Written) → d ≡ c → last ≡ journal → IsMade c r journal how out (written faults held x y) → Finished how ending f g (written faults held y z) a b journal → Played c r last ending f g out (written faults held x z) a b
-played_by faults held x y z c d r journal last how ending f g a b out e l m n =
-    let P : List Entry → Type 0 = λ j. Played c r j ending f g out (written faults held x z) a b in
-    subst P (sym l) (finished-by c r journal f g a b out (faults x) (faults y) (faults z) (held x) (held y) (held z) how ending m n)
+pub played_by : {S : Type 0} (faults : S → ℕ) (held : S → Option (List ℕ)) (x y z : S) (c d : CaseData) (order : Option serial.Rules) (journal last : List Entry) (how : Came) (ending : Ending) (f g : FilesNow) (a b : Option (List ℕ)) (out : Written) → d ≡ c → last ≡ journal → IsMade c order journal how out (written faults held x y) → Finished how ending f g (written faults held y z) a b journal → Played c order last ending f g out (written faults held x z) a b
+played_by faults held x y z c d order journal last how ending f g a b out e l m n =
+    let P : List Entry → Type 0 = λ j. Played c order j ending f g out (written faults held x z) a b in
+    subst P (sym l) (finished-by c order journal f g a b out (faults x) (faults y) (faults z) (held x) (held y) (held z) how ending m n)

@@ -1,5 +1,5 @@
 -- What is answered: the case, the journal, and the ending of the machine.
-use Rattle.std.specs.Prelude.{◌≡◌, ℕ, ◌≤◌, List, [], ◌++◌, length, Option, Some, None, IsSome, IsNone, ⊤}
+use Rattle.std.specs.Prelude.{◌≡◌, ℕ, ◌≤◌, List, [], ◌++◌, length, Option, Some, None, IfSome, IsSome, IsNone, ⊤}
 use Rattle.endings.specs.declared.ending.Ending.{Ending}
 use Rattle.endings.specs.declared.ending.Ending.TheVariants.{Absent, Done, Image, IrText, Memory, ReadFault, Report, Run, Stale, TooLong, TooMany, Twice, Usage, WriteFault}
 use Rattle.endings.specs.Ending.{line_of}
@@ -71,19 +71,27 @@ IfRun (Twice address) P = ⊤
 IfRun TooMany P = ⊤
 IfRun WriteFault P = ⊤
 
--- the whole journal of the serial run after a run to its ending, else what it begins with
-abbrev pub JournalOf : Ending → CaseData → serial.Rules → List Entry → Type 0
-JournalOf (Run e) c r journal = IsSerial c r journal
-JournalOf Done c r journal = BeginsSerial c r journal
-JournalOf (Usage fault) c r journal = BeginsSerial c r journal
-JournalOf (Image number) c r journal = BeginsSerial c r journal
-JournalOf ReadFault c r journal = BeginsSerial c r journal
-JournalOf Absent c r journal = BeginsSerial c r journal
-JournalOf (IrText fault) c r journal = BeginsSerial c r journal
-JournalOf (Stale address file lifted) c r journal = BeginsSerial c r journal
-JournalOf (Report fault) c r journal = BeginsSerial c r journal
-JournalOf TooLong c r journal = BeginsSerial c r journal
-JournalOf Memory c r journal = BeginsSerial c r journal
-JournalOf (Twice address) c r journal = BeginsSerial c r journal
-JournalOf TooMany c r journal = BeginsSerial c r journal
-JournalOf WriteFault c r journal = BeginsSerial c r journal
+-- the whole journal of the serial run, where the run keeps its order
+abbrev pub InOrder : Option serial.Rules → CaseData → List Entry → Type 0
+InOrder o c journal = IfSome o (λ r. IsSerial c r journal)
+
+-- what it begins with
+abbrev pub BeginsOrder : Option serial.Rules → CaseData → List Entry → Type 0
+BeginsOrder o c journal = IfSome o (λ r. BeginsSerial c r journal)
+
+-- the whole one after a run to its ending, else what it begins with
+abbrev pub JournalOf : Ending → CaseData → Option serial.Rules → List Entry → Type 0
+JournalOf (Run e) c o journal = InOrder o c journal
+JournalOf Done c o journal = BeginsOrder o c journal
+JournalOf (Usage fault) c o journal = BeginsOrder o c journal
+JournalOf (Image number) c o journal = BeginsOrder o c journal
+JournalOf ReadFault c o journal = BeginsOrder o c journal
+JournalOf Absent c o journal = BeginsOrder o c journal
+JournalOf (IrText fault) c o journal = BeginsOrder o c journal
+JournalOf (Stale address file lifted) c o journal = BeginsOrder o c journal
+JournalOf (Report fault) c o journal = BeginsOrder o c journal
+JournalOf TooLong c o journal = BeginsOrder o c journal
+JournalOf Memory c o journal = BeginsOrder o c journal
+JournalOf (Twice address) c o journal = BeginsOrder o c journal
+JournalOf TooMany c o journal = BeginsOrder o c journal
+JournalOf WriteFault c o journal = BeginsOrder o c journal

@@ -1,5 +1,5 @@
 -- The plans that are carried out.
-use Rattle.std.specs.Prelude.{◌≡◌, ℕ, ◌<◌, ◌≤◌, List, [], ◌∷◌, Option, Some, None, Result, Ok, Err}
+use Rattle.std.specs.Prelude.{◌≡◌, ℕ, ◌<◌, ◌≤◌, if◌then◌else◌, true, List, [], ◌∷◌, Option, Some, None, Result, Ok, Err}
 use Rattle.words_line.specs.declared.plan.Plan.{Plan}
 use Rattle.words_line.specs.declared.plan.Plan.TheVariants.{Gen, Lift, Run}
 use Rattle.words_line.specs.declared.plan.WordsFault.{WordsFault}
@@ -14,7 +14,7 @@ run_of (Lift prog base misses) = Err UnknownCommand
 run_of (Gen number threads rounds name) = Err UnknownCommand
 run_of (Run prog (Some ir) strict serial turn hold steps report journal args) = Err Line
 run_of (Run prog None strict serial turn hold steps report journal args) =
-    Ok (record { task = record { prog = prog; args = prog ∷ args; steps = steps; strict = strict }; turn = turn; hold = hold; journal = journal; report = report })
+    Ok (record { task = record { prog = prog; args = prog ∷ args; steps = steps; strict = strict }; serial = serial; turn = turn; hold = hold; journal = journal; report = report })
 
 -- the run that the words ask for, or what is wrong with them
 abbrev pub plan_of_run : Result Plan WordsFault → Result RunPlan WordsFault
@@ -24,9 +24,17 @@ plan_of_run (Err fault) = Err fault
 abbrev pub rules_of : RunPlan → serial.Rules
 rules_of p = record { turn = p.turn; hold = p.hold }
 
+-- the serial order that a run keeps; a run by workers keeps none
+abbrev pub order_of : RunPlan → Option serial.Rules
+order_of p = if p.serial then Some (rules_of p) else None
+
 -- the numbers of a run are in their ranges
 pub record HasRanges (p : RunPlan) : Type 0 where
   pub turn : 0 < p.turn
   pub most : p.turn ≤ 65536
   pub hold : p.hold ≤ 255
   pub steps : p.task.steps ≤ 134217728
+
+-- it keeps the serial order, too
+abbrev pub IsPlain : RunPlan → Type 0
+IsPlain p = HasRanges p × (p.serial ≡ true)

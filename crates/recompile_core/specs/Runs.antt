@@ -9,14 +9,12 @@ use Rattle.machine_model.specs.CaseData.{CaseData}
 use Rattle.machine_model.specs.Gated.{IsGated}
 use Rattle.machine_model.specs.Play.{play}
 use Rattle.machine_model.specs.Serial as serial
-use Rattle.machine_model.specs.Serial.{IsSerial}
 use Rattle.machine_model.specs.State.{Machine}
 use Rattle.mx_outside.specs.Causes.{Rose}
 use Rattle.machine_model.specs.declared.ending.RunEnd.{RunEnd}
 use Rattle.ir_runner.specs.declared.run.Ran.{Ran}
 use Rattle.ir_runner.specs.declared.run.Ran.TheVariants as ran
 use Rattle.ir_runner.specs.Outputs.{Gains, GainsBy, HoldsPart, Written}
-use Rattle.ir_runner.specs.Runs.{BeginsSerial}
 use Rattle.run_start.specs.declared.fault.StartFault.{StartFault}
 use Rattle.run_start.specs.declared.fault.StartFault.TheVariants as start
 use Rattle.words_line.specs.declared.plan.Plan.{Plan}
@@ -26,12 +24,12 @@ use Rattle.recompile_core.specs.declared.files.Unwritten.{Unwritten}
 use Rattle.recompile_core.specs.declared.files.Unwritten.TheVariants as unwritten
 use Rattle.recompile_core.specs.declared.run.Came.{Came}
 use Rattle.recompile_core.specs.declared.run.Came.TheVariants as came
-use Rattle.recompile_core.specs.Answer.{Ends, HasCase, IfRun, IsCaseOfTask, JournalOf}
+use Rattle.recompile_core.specs.Answer.{BeginsOrder, Ends, HasCase, IfRun, InOrder, IsCaseOfTask, JournalOf}
 use Rattle.recompile_core.specs.Causes.{CauseOf}
 use Rattle.machine_laws.specs.Cases.{reads_input}
 use Rattle.recompile_core.specs.declared.plan.RunPlan.{RunPlan}
 use Rattle.recompile_core.specs.After.{IfFailure, FilesAfter, InputRead, IsRefused, Leaves, Wrote, unchanged, with_files}
-use Rattle.recompile_core.specs.Plans.{rules_of, run_of}
+use Rattle.recompile_core.specs.Plans.{order_of, run_of}
 use Rattle.recompile_core.specs.World.{FilesNow, World}
 
 -- the plan is none to run a program without blocks, or memory was wanting
@@ -55,18 +53,18 @@ CameBy ran.Ended end how = IfSome end (λ e. how ≡ came.Ended e)
 CameBy (ran.Stopped out err) end how = how ≡ came.Stopped out err
 CameBy (ran.Memory e) end how = how ≡ came.Memory
 
--- How the run came to its end: its journal, the machine's ending, and what the sinks have.
-abbrev pub CameTo : Came → CaseData → serial.Rules → List Entry → Machine → Written → Written → Type 0
-CameTo (came.Ended e) c r journal m out err = IsSerial c r journal × (m.ending ≡ Some e) × Gains out m.library.out1 × Gains err m.library.out2
-CameTo (came.Stopped first second) c r journal m out err = BeginsSerial c r journal × ((first || second) ≡ true) × GainsBy first out m.library.out1 × GainsBy second err m.library.out2
-CameTo came.Memory c r journal m out err = BeginsSerial c r journal × HoldsPart out m.library.out1 × HoldsPart err m.library.out2
+-- How the run came to its end: its journal, by the order that the run keeps, the machine's ending, and what the sinks have.
+abbrev pub CameTo : Came → CaseData → Option serial.Rules → List Entry → Machine → Written → Written → Type 0
+CameTo (came.Ended e) c o journal m out err = InOrder o c journal × (m.ending ≡ Some e) × Gains out m.library.out1 × Gains err m.library.out2
+CameTo (came.Stopped first second) c o journal m out err = BeginsOrder o c journal × ((first || second) ≡ true) × GainsBy first out m.library.out1 × GainsBy second err m.library.out2
+CameTo came.Memory c o journal m out err = BeginsOrder o c journal × HoldsPart out m.library.out1 × HoldsPart err m.library.out2
 
 -- a journal that was made: it is played to a machine, and gated
-pub record IsMade (c : CaseData) (r : serial.Rules) (journal : List Entry) (how : Came) (out err : Written) : Type 0 where
+pub record IsMade (c : CaseData) (o : Option serial.Rules) (journal : List Entry) (how : Came) (out err : Written) : Type 0 where
   pub machine : Machine
   pub played : play c journal ≡ Some machine
   pub gated : IsGated c journal
-  pub came : CameTo how c r journal machine out err
+  pub came : CameTo how c o journal machine out err
 
 -- ---- the files of a run
 
@@ -143,15 +141,15 @@ pub record Finished (how : Came) (ending : Ending) (f g : FilesNow) (err : Writt
 -- ---- a run and its end
 
 -- the ending is the machine's: the whole serial journal, its outputs and the line, and both files
-pub record RunsTo (c : CaseData) (r : serial.Rules) (journal : List Entry) (e : RunEnd) (f g : FilesNow) (out err : Written) (journal_name report_name : Option (List ℕ)) : Type 0 where
+pub record RunsTo (c : CaseData) (o : Option serial.Rules) (journal : List Entry) (e : RunEnd) (f g : FilesNow) (out err : Written) (journal_name report_name : Option (List ℕ)) : Type 0 where
   pub ends : Ends out err c journal e
-  pub whole : IsSerial c r journal
+  pub whole : InOrder o c journal
   pub files : Wrote f g (with_files journal_name report_name journal)
 
 -- memory was wanting, or writing failed
-pub record Breaks (c : CaseData) (r : serial.Rules) (journal : List Entry) (ending : Ending) (f g : FilesNow) (out err : Written) (journal_name report_name : Option (List ℕ)) : Type 0 where
+pub record Breaks (c : CaseData) (o : Option serial.Rules) (journal : List Entry) (ending : Ending) (f g : FilesNow) (out err : Written) (journal_name report_name : Option (List ℕ)) : Type 0 where
   pub leaves : Leaves out err c journal ending
-  pub begins : BeginsSerial c r journal
+  pub begins : BeginsOrder o c journal
   pub files : FilesAfter f g journal_name report_name journal
 
 -- a sink failed, or a file
@@ -159,12 +157,12 @@ abbrev pub WriteFailed : FilesNow → FilesNow → Written → Written → Type 
 WriteFailed f g out err = Rose out.before out.now ⊎ (Rose err.before err.now ⊎ Rose f.writes g.writes)
 
 -- what a run came to, by its ending
-pub record Played (c : CaseData) (r : serial.Rules) (journal : List Entry) (ending : Ending) (f g : FilesNow) (out err : Written) (journal_name report_name : Option (List ℕ)) : Type 0 where
+pub record Played (c : CaseData) (o : Option serial.Rules) (journal : List Entry) (ending : Ending) (f g : FilesNow) (out err : Written) (journal_name report_name : Option (List ℕ)) : Type 0 where
   pub gated : IsGated c journal
   pub by_ending :
-      ((e : RunEnd) × (ending ≡ Run e) × RunsTo c r journal e f g out err journal_name report_name)
-      ⊎ (((ending ≡ WriteFault) × WriteFailed f g out err × Breaks c r journal WriteFault f g out err journal_name report_name)
-      ⊎ ((ending ≡ Memory) × Breaks c r journal Memory f g out err journal_name report_name))
+      ((e : RunEnd) × (ending ≡ Run e) × RunsTo c o journal e f g out err journal_name report_name)
+      ⊎ (((ending ≡ WriteFault) × WriteFailed f g out err × Breaks c o journal WriteFault f g out err journal_name report_name)
+      ⊎ ((ending ≡ Memory) × Breaks c o journal Memory f g out err journal_name report_name))
 
 -- ---- a whole call
 
@@ -175,7 +173,7 @@ pub record IsAnswer (w : World) (p : RunPlan) (a : Answer) : Type 0 where
   pub journal : IfNone a.case (a.journal ≡ [])
   pub machine : IfRun a.ending (λ e. IfSome a.case (λ c. Ends w.out w.err c a.journal e))
   pub gated : IfSome a.case (λ c. IsGated c a.journal)
-  pub serial : IfSome a.case (λ c. JournalOf a.ending c (rules_of p) a.journal)
+  pub serial : IfSome a.case (λ c. JournalOf a.ending c (order_of p) a.journal)
   pub after_failure : IfFailure a.ending (IfSome a.case (λ c. Leaves w.out w.err c a.journal a.ending × FilesAfter w.files w.files_after p.journal p.report a.journal))
   pub files : IfRun a.ending (λ e. Wrote w.files w.files_after (with_files p.journal p.report a.journal))
   pub input : IfRun a.ending (λ e. IfSome a.case (λ c. InputRead (reads_input c.image) w.input w.input_after))

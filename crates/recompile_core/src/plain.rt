@@ -12,7 +12,7 @@ ghost use Rattle.words_line.specs.Plans.{IsInRange};
 ghost use Rattle.recompile_core.specs.After.{FilesAfter, GainsOrFails, IfFailure, InputRead, IsRefused, Leaves, Wrote, with_files};
 ghost use Rattle.recompile_core.specs.Answer.{Ends, HasCase, IfRun, IsCaseOfTask, JournalOf};
 ghost use Rattle.recompile_core.specs.Causes.{CauseOf};
-ghost use Rattle.recompile_core.specs.Plans.{HasRanges, rules_of, run_of};
+ghost use Rattle.recompile_core.specs.Plans.{IsPlain, run_of};
 ghost use Rattle.recompile_core.specs.Runs.{IsAnswer, Played};
 ghost use Rattle.recompile_core.specs.World.{files_now, input_now};
 
@@ -45,7 +45,7 @@ fn play<F: Files, O: Sink, E: Sink, N: Engine>(
     requires rules { AreRules hall.case rules }
     ensures status { result.status ≡ status_of result.ending }
     ensures case { result.case ≡ Some hall.case }
-    ensures played { Played hall.case (serial_rules rules) result.journal result.ending (files_now F.names F.read_faults F.write_faults files.old) (files_now F.names F.read_faults F.write_faults files.new) (written O.faults O.held out.old out.new) (written E.faults E.held err.old err.new) journal_name.now report_name.now }
+    ensures played { Played hall.case (Some (serial_rules rules)) result.journal result.ending (files_now F.names F.read_faults F.write_faults files.old) (files_now F.names F.read_faults F.write_faults files.new) (written O.faults O.held out.old out.new) (written E.faults E.held err.old err.new) journal_name.now report_name.now }
     ensures reads { F.read_faults files.new ≡ F.read_faults files.old }
     ensures count { Rises (N.count engine.old) (N.count engine.new) (instruction_steps hall.case result.journal) }
 {
@@ -63,13 +63,14 @@ pub(crate) fn carry_out<F: Files, I: Source, O: Sink, E: Sink, N: Engine>(
     err: &mut E,
     engine: &mut N,
 ) -> Answer
-    requires { HasRanges plan }
+    requires { IsPlain plan }
     ensures status { result.status ≡ status_of result.ending }
     ensures answer { IsAnswer (record { files = files_now F.names F.read_faults F.write_faults files.old; files_after = files_now F.names F.read_faults F.write_faults files.new; input = input_now I.left I.faults input.old; input_after = input_now I.left I.faults input.new; out = written O.faults O.held out.old out.new; err = written E.faults E.held err.old err.new }) plan result }
     ensures count { IfSome result.case (λ c. Rises (N.count engine.old) (N.count engine.new) (instruction_steps c result.journal)) }
 {
     let RunPlan {
         task,
+        serial: _,
         turn,
         hold,
         journal,
@@ -88,8 +89,8 @@ pub(crate) fn carry_out<F: Files, I: Source, O: Sink, E: Sink, N: Engine>(
     }
 }
 
-/// Carries out a plan to run a program without blocks: runs it in the serial order, whether or not the plan says so, since there
-/// are no workers yet. What the answer says of the run is told in `specs/Runs.antt` (`IsAnswer`).
+/// Carries out a plan to run a program without blocks in the serial order, and returns. What the answer says of the run is told
+/// in `specs/Runs.antt` (`IsAnswer`).
 ///
 /// - The case, where there is one, is that of the plan and of the bytes that were read; the journal is that of the serial order,
 ///   whole at `Run`, and is played and gated. At `Run` `out` grew by the machine's first output and `err` by its second and the
@@ -109,8 +110,8 @@ pub fn recompile_plain<F: Files, I: Source, O: Sink, E: Sink, N: Engine>(
     err: &mut E,
     engine: &mut N,
 ) -> Answer
-    // The plan is a run without blocks, and its numbers are in their ranges.
-    requires run { IsOkAnd (run_of plan) HasRanges }
+    // The plan is a run in the serial order without blocks, and its numbers are in their ranges.
+    requires run { IsOkAnd (run_of plan) IsPlain }
     ensures status { result.status ≡ status_of result.ending }
     ensures answer { IfOk (run_of plan) (λ p. IsAnswer (record { files = files_now F.names F.read_faults F.write_faults files.old; files_after = files_now F.names F.read_faults F.write_faults files.new; input = input_now I.left I.faults input.old; input_after = input_now I.left I.faults input.new; out = written O.faults O.held out.old out.new; err = written E.faults E.held err.old err.new }) p result) }
     ensures count { IfSome result.case (λ c. Rises (N.count engine.old) (N.count engine.new) (instruction_steps c result.journal)) }

@@ -17,11 +17,12 @@ pub(crate) struct Task {
     pub(crate) strict: bool,
 }
 
-/// A task, how many entries a turn makes, for how many turns a write waits, and the files for the journal and for the report of
+/// A task, whether it is run in the serial order or by workers, how many entries a turn makes, for how many turns a write waits, and the files for the journal and for the report of
 /// misses.
 #[derive(Drop)]
 pub(crate) struct RunPlan {
     pub(crate) task: Task,
+    pub(crate) serial: bool,
     pub(crate) turn: u32,
     pub(crate) hold: u32,
     pub(crate) journal: Option<Text>,
@@ -54,7 +55,7 @@ pub(crate) fn run_of(alloc: Global, plan: Plan) -> Result<RunPlan, Ending>
             prog,
             ir: None,
             strict,
-            serial: _,
+            serial,
             turn,
             hold,
             steps,
@@ -72,6 +73,7 @@ pub(crate) fn run_of(alloc: Global, plan: Plan) -> Result<RunPlan, Ending>
                     steps,
                     strict,
                 },
+                serial,
                 turn,
                 hold,
                 journal,

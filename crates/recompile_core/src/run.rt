@@ -1,6 +1,6 @@
 //! A run, from its first step to what it came to.
 
-ghost use Rattle.std.specs.Prelude.{◌≡◌, [], IsSome, Option};
+ghost use Rattle.std.specs.Prelude.{◌≡◌, [], IsSome, None, Option, Some};
 ghost use Rattle.guest_parts.specs.Running.{Rises};
 ghost use Rattle.ir_runner.specs.Outputs.{written};
 ghost use Rattle.ir_runner.specs.declared.run.Ran.TheVariants as outcome;
@@ -18,7 +18,10 @@ use machine_model::ending::RunEnd;
 use mx_outside::Sink;
 use run_start::ImageLifter;
 use std::alloc::Global;
-use thread_step::{Engine, Rules};
+use std::sync::Wait;
+use std::thread::Threads;
+use thread_step::{Engine, Gate, Rules};
+use worker_runner::run_workers;
 
 /// How a run came to its end.
 #[derive(Clone, Copy, Debug)]
@@ -70,11 +73,49 @@ pub(crate) fn run<O: Sink, E: Sink, N: Engine>(
     requires first { hall.journal ≡ [] }
     requires rules { AreRules hall.case rules }
     ensures case { result.case ≡ hall.case }
-    ensures made { IsMade hall.case (serial_rules rules) result.journal result.came (written O.faults O.held out.old out.new) (written E.faults E.held err.old err.new) }
+    ensures made { IsMade hall.case (Some (serial_rules rules)) result.journal result.came (written O.faults O.held out.old out.new) (written E.faults E.held err.old err.new) }
     ensures count { Rises (N.count engine.old) (N.count engine.new) (instruction_steps hall.case result.journal) }
 {
     let lifter = ImageLifter::make(alloc);
     let (hall, ran) = run_serial(alloc, hall, &lifter, engine, rules, out, err);
+    hall.facts();
+    let came = came_of(ran, hall.ending().copied());
+    let (case, journal) = hall.into_run();
+    Made {
+        case,
+        journal,
+        came,
+    }
+}
+
+/// Runs all threads of a hall whose journal is empty by workers.
+///
+/// The journal is played to a machine, and gated, whatever the interleaving. The machine's ending and the sinks are as
+/// `worker_runner::run_workers` says.
+pub(crate) fn run_by_workers<
+    R: Threads + Wait + Sync,
+    O: Sink,
+    E: Sink,
+    N: Engine + Drop,
+    G: Gate + Sync,
+>(
+    rt: &R,
+    alloc: Global,
+    hall: Hall<Block>,
+    rules: Rules,
+    out: &mut O,
+    err: &mut E,
+    engine: &mut N,
+    gate: &G,
+) -> Made
+    requires first { hall.journal ≡ [] }
+    requires rules { AreRules hall.case rules }
+    ensures case { result.case ≡ hall.case }
+    ensures made { IsMade hall.case None result.journal result.came (written O.faults O.held out.old out.new) (written E.faults E.held err.old err.new) }
+    ensures count { Rises (N.count engine.old) (N.count engine.new) (instruction_steps hall.case result.journal) }
+{
+    let lifter = ImageLifter::make(alloc);
+    let (hall, ran) = run_workers(rt, alloc, hall, &lifter, engine, gate, rules, out, err);
     hall.facts();
     let came = came_of(ran, hall.ending().copied());
     let (case, journal) = hall.into_run();

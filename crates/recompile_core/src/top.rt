@@ -14,18 +14,32 @@ use crate::answer::Answer;
 use crate::finish::refused;
 use crate::plain::carry_out;
 use crate::plan::run_of;
+use crate::workers::carry_out_by_workers;
 use endings::Ending;
 use mx_outside::{Files, Sink, Source};
 use std::alloc::Global;
 use std::sync::Wait;
+use std::thread::Threads;
 use thread_step::{Engine, Gate};
 use words_line::{WordsError, read_words};
 
 /// Carries out the words of a command, those after the program's own name.
 ///
 /// `Usage` comes exactly where the words ask for no run of a program without blocks, with what is wrong with them; then nothing
-/// is read. Else all is as `recompile_plain` says of the words' plan. Nothing waits for anybody yet, and the gate isn't asked.
-pub fn recompile<R: Wait, F: Files, I: Source, O: Sink, E: Sink, N: Engine, G: Gate>(
+/// is read. A run with `--serial` is as `recompile_plain` says of the words' plan. A run without it is made by workers, one for
+/// each guest thread, in a thread of the operating system where one can be started; the gate is passed before each entry, outside
+/// the lock. All is said of it that is said of a serial run but that its journal is the serial order's: it is played and gated,
+/// whatever the interleaving, and the outputs and the ending are those of its machine. Which legal interleaving comes is not
+/// promised, nor that a thread gets on.
+pub fn recompile<
+    R: Threads + Wait + Sync,
+    F: Files,
+    I: Source,
+    O: Sink,
+    E: Sink,
+    N: Engine + Drop,
+    G: Gate + Sync,
+>(
     rt: &R,
     alloc: Global,
     words: &[String],
@@ -41,15 +55,19 @@ pub fn recompile<R: Wait, F: Files, I: Source, O: Sink, E: Sink, N: Engine, G: G
     ensures usage { IfErr (plan_of_run (plan_of (texts words.now))) (IsUsage (record { files = files_now F.names F.read_faults F.write_faults files.old; files_after = files_now F.names F.read_faults F.write_faults files.new; input = input_now I.left I.faults input.old; input_after = input_now I.left I.faults input.new; out = written O.faults O.held out.old out.new; err = written E.faults E.held err.old err.new }) result) }
     ensures count { IfSome result.case (λ c. Rises (N.count engine.old) (N.count engine.new) (instruction_steps c result.journal)) }
 {
-    let _ = rt;
-    let _ = gate;
     let plan = match read_words(alloc, words) {
         Ok(plan) => plan,
         Err(WordsError::Fault(fault)) => return refused(alloc, err, Ending::Usage(fault)),
         Err(WordsError::Memory(_)) => return refused(alloc, err, Ending::Memory),
     };
     match run_of(alloc, plan) {
-        Ok(run) => carry_out(alloc, run, files, input, out, err, engine),
+        Ok(run) => {
+            if run.serial {
+                carry_out(alloc, run, files, input, out, err, engine)
+            } else {
+                carry_out_by_workers(rt, alloc, run, files, input, out, err, engine, gate)
+            }
+        }
         Err(refusal) => refused(alloc, err, refusal),
     }
 }

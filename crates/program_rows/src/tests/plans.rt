@@ -1,7 +1,7 @@
 //! A plan that is carried out without words.
 
 ghost use Rattle.std.specs.Prelude.{IfOk, IsOkAnd};
-ghost use Rattle.recompile_core.specs.Plans.{HasRanges, run_of};
+ghost use Rattle.recompile_core.specs.Plans.{IsPlain, run_of};
 
 use super::{Left, RUN, assert_left, files_of, input_of, sink_of};
 use recompile_core::{PlainEngine, recompile_plain};
@@ -13,9 +13,9 @@ fn text(alloc: Global, word: &str) -> Result<Text, AllocError> {
     Ok(Text::from_string(String::from_str(alloc, word)?))
 }
 
-// A run without blocks, whose numbers are in their ranges.
+// A run in the serial order without blocks, whose numbers are in their ranges.
 fn plan(alloc: Global) -> Result<Plan, AllocError>
-    ensures { IfOk result (λ p. IsOkAnd (run_of p) HasRanges) }
+    ensures { IfOk result (λ p. IsOkAnd (run_of p) IsPlain) }
 {
     Ok(Plan::Run {
         prog: text(alloc, "p")?,

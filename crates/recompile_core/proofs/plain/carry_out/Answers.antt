@@ -1,6 +1,7 @@
-use Rattle.std.proofs.Common.{◌∙◌, subst}
+use Rattle.std.proofs.Common.{◌≡◌, ◌∙◌, refl, sym, subst, Option, Some}
 use Rattle.ir_runner.specs.Outputs.{written}
-use Rattle.recompile_core.specs.Plans.{rules_of}
+use Rattle.machine_model.specs.Serial as serial
+use Rattle.recompile_core.specs.Plans.{order_of, rules_of}
 use Rattle.recompile_core.specs.Runs.{Played}
 use Rattle.recompile_core.specs.World.{FilesNow, World, files_now, input_now}
 use Rattle.recompile_core.proofs.Carrying.{played_answer, same_now}
@@ -14,5 +15,7 @@ returns-in-Ok-clause-answer g c =
     let err = written g.E.Sink.faults g.E.Sink.held c.args.err.now c.play.new.err in
     let w : World = record { files = now c.args.files.now; files_after = now c.play.new.files; input = in_now c.args.input.now; input_after = in_now c.start.new.input; out = out; err = err } in
     let same = same_now (now c.args.files.now) (now c.start.new.files) c.start.ensures.names c.in-Ok.ensures.reads c.start.ensures.writes in
-    let P : FilesNow → Type 0 = λ f. Played c.in-Ok.hall.case (rules_of c.args.plan) c.play.result.journal c.play.result.ending f (now c.play.new.files) out err c.args.plan.journal c.args.plan.report in
-    played_answer w c.args.plan c.play.result c.in-Ok.hall.case c.play.ensures.case c.in-Ok.ensures.case c.in-Ok.ensures.input (c.play.ensures.reads ∙ c.in-Ok.ensures.reads) c.in-Ok.ensures.faults (subst P same c.play.ensures.played)
+    let order : order_of c.args.plan ≡ Some (rules_of c.args.plan) = rw c.requires.1 refl in
+    let Q : Option serial.Rules → Type 0 = λ o. Played c.in-Ok.hall.case o c.play.result.journal c.play.result.ending (now c.start.new.files) (now c.play.new.files) out err c.args.plan.journal c.args.plan.report in
+    let P : FilesNow → Type 0 = λ f. Played c.in-Ok.hall.case (order_of c.args.plan) c.play.result.journal c.play.result.ending f (now c.play.new.files) out err c.args.plan.journal c.args.plan.report in
+    played_answer w c.args.plan c.play.result c.in-Ok.hall.case c.play.ensures.case c.in-Ok.ensures.case c.in-Ok.ensures.input (c.play.ensures.reads ∙ c.in-Ok.ensures.reads) c.in-Ok.ensures.faults (subst P same (subst Q (sym order) c.play.ensures.played))

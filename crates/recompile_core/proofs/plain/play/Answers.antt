@@ -1,3 +1,4 @@
+use Rattle.std.proofs.Common.{Some}
 use Rattle.thread_step.specs.Turned.{serial_rules}
 use Rattle.ir_runner.specs.Outputs.{written}
 use Rattle.recompile_core.specs.World.{files_now}
@@ -7,4 +8,4 @@ use Rattle.recompile_core.proofs.plain.play.Goals as goal
 pub returns-clause-played : goal.returns-clause-played
 returns-clause-played g c =
     let now = files_now g.F.Files.names g.F.Files.read_faults g.F.Files.write_faults in
-    played_by g.E.Sink.faults g.E.Sink.held c.args.err.now c.run-made.new.err c.finish.new.err c.args.hall.case c.run-made.result.case (serial_rules c.args.rules) c.run-made.result.journal c.finish.result.journal c.run-made.result.came c.finish.result.ending (now c.args.files.now) (now c.finish.new.files) c.args.journal_name.now c.args.report_name.now (written g.O.Sink.faults g.O.Sink.held c.args.out.now c.run-made.new.out) c.run-made.ensures.case c.finish.ensures.journal c.run-made.ensures.made c.finish.ensures.finished
+    played_by g.E.Sink.faults g.E.Sink.held c.args.err.now c.run-made.new.err c.finish.new.err c.args.hall.case c.run-made.result.case (Some (serial_rules c.args.rules)) c.run-made.result.journal c.finish.result.journal c.run-made.result.came c.finish.result.ending (now c.args.files.now) (now c.finish.new.files) c.args.journal_name.now c.args.report_name.now (written g.O.Sink.faults g.O.Sink.held c.args.out.now c.run-made.new.out) c.run-made.ensures.case c.finish.ensures.journal c.run-made.ensures.made c.finish.ensures.finished

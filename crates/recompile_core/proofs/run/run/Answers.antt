@@ -1,4 +1,4 @@
-use Rattle.std.proofs.Common.{◌∙◌, sym, subst, List}
+use Rattle.std.proofs.Common.{◌∙◌, sym, subst, List, Some}
 use Rattle.journal_pack.specs.declared.entry.Entry.{Entry}
 use Rattle.machine_model.specs.CaseData.{CaseData}
 use Rattle.thread_step.specs.Turned.{serial_rules}
@@ -13,6 +13,6 @@ returns-clause-made g c =
     let out = written g.O.Sink.faults g.O.Sink.held c.args.out.now c.run_serial-hall.new.out in
     let err = written g.E.Sink.faults g.E.Sink.held c.args.err.now c.run_serial-hall.new.err in
     let m = made_by h c.run_serial-hall.result.1 c.copied.result c.came_of-came.result c.args.rules out err c.facts.ensures.gated c.facts.ensures.played c.run_serial-hall.ensures.journal c.run_serial-hall.ensures.outputs (c.copied.ensures ∙ c.ending.ensures) c.came_of-came.ensures in
-    let P : CaseData → Type 0 = λ k. IsMade k (serial_rules c.args.rules) h.journal c.came_of-came.result out err in
-    let Q : List Entry → Type 0 = λ j. IsMade c.args.hall.case (serial_rules c.args.rules) j c.came_of-came.result out err in
+    let P : CaseData → Type 0 = λ k. IsMade k (Some (serial_rules c.args.rules)) h.journal c.came_of-came.result out err in
+    let Q : List Entry → Type 0 = λ j. IsMade c.args.hall.case (Some (serial_rules c.args.rules)) j c.came_of-came.result out err in
     subst Q (sym c.into_run-case.ensures.journal) (subst P c.run_serial-hall.ensures.case m)

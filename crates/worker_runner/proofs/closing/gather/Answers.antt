@@ -1,0 +1,30 @@
+use Rattle.std.proofs.Common.{◌≡◌, ◌≤◌, List, length, vec_capacity, refl, sym, subst, ap, ◌∙◌, arith}
+use Rattle.worker_runner.specs.declared.round.Worker.{Worker}
+use Rattle.worker_runner.specs.Rounds.{AreHeld}
+use Rattle.worker_runner.proofs.Gathering.{back_all, back_last, back_next, back_none, its_held}
+use Rattle.worker_runner.proofs.closing.gather.Goals as goal
+
+pub loop-worker-init : goal.loop-worker-init
+loop-worker-init g c =
+    let same = c.into_iter-worker-iterator.ensures.into_iter_gives.0 in
+    let f = c.requires.held in
+    let m = back_none f.0 f.1 c.into_iter-worker-iterator.result.rest.items c.args.room.items c.requires.room.0 (subst (λ (ws : List (Worker g.row.N.Denot)). AreHeld f.0 f.1 ws) (sym same) f.2) in
+    (λ key k held. back_none key k c.into_iter-worker-iterator.result.rest.items c.args.room.items c.requires.room.0 (subst (λ (ws : List (Worker g.row.N.Denot)). AreHeld key k ws) (sym same) held), record { made = m.made }, c.requires.room.1)
+
+pub into_pass-requires : goal.into_pass-requires
+into_pass-requires g c =
+    let f = c.requires.held in
+    let h = its_held f.0 f.1 c.loop-worker.worker-iterator.rest.items c.next.new.self.rest.items c.loop-worker.passes.items c.loop-worker.passes.items c.in-Some.worker (c.loop-worker.invariant.0 f.0 f.1 f.2) c.in-Some.ensures.steps.0 in
+    record { there = (h.pass, h.there) }
+
+pub loop-worker-preserved : goal.loop-worker-preserved
+loop-worker-preserved g c =
+    let f = c.requires.held in
+    let m = back_next f.0 f.1 _ _ _ _ _ (c.loop-worker.invariant.0 f.0 f.1 f.2) c.in-Some.ensures.steps.0 c.into_pass.result c.into_pass.ensures.pass c.in-Ok.ensures.items in
+    (λ key k held. back_next key k _ _ _ _ _ (c.loop-worker.invariant.0 key k held) c.in-Some.ensures.steps.0 c.into_pass.result c.into_pass.ensures.pass c.in-Ok.ensures.items, record { made = m.made }, (let a = c.push-pushed.ensures.capacity in let b = c.loop-worker.invariant.2 in omega (arith, a, b)))
+
+pub returns : goal.returns
+returns g c = record {
+  last = λ d. back_last _ _ c.loop-worker.worker-iterator.rest.items c.loop-worker.passes.items _ c.args.last d (let n = c.in-None.ensures.steps.0 in search) (c.loop-worker.invariant.0 _ _ c.requires.held.2) c.in-Ok-pushed.ensures.items;
+  back = λ key k held back. back_all key k c.loop-worker.worker-iterator.rest.items c.loop-worker.passes.items _ c.args.last (let n = c.in-None.ensures.steps.0 in search) (c.loop-worker.invariant.0 key k held) back c.in-Ok-pushed.ensures.items;
+}

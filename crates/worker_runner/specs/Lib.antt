@@ -1,0 +1,5 @@
+-- What the contracts of the crate cite.
+pub mod Workers
+pub mod Watched
+pub mod Rounds
+pub mod Ending
