@@ -36,7 +36,7 @@ slot_is t (Over u k) h = ap slot_of (let q : u ≡ t = cc in q)
 slot_is t (Full u) h = ap slot_of (let q : u ≡ t = cc in q)
 slot_is t Dead h = absurd (let no : Some t ≡ Some t = refl in cc)
 
-all_own : (s t : ℕ) (es : List Entry) → slot_of t ≡ s → AreOf t es → All (λ e. slot_in e ≡ s) es
+pub all_own : (s t : ℕ) (es : List Entry) → slot_of t ≡ s → AreOf t es → All (λ e. slot_in e ≡ s) es
 all_own s t [] slot h = All-nil (λ e. slot_in e ≡ s)
 all_own s t (e ∷ es) slot h = All-cons (λ x. slot_in x ≡ s) e es (slot_is t e (All-head (λ x. thread_of x ≡ Some t) e es h) ∙ slot) (all_own s t es slot (All-tail (λ x. thread_of x ≡ Some t) e es h))
 

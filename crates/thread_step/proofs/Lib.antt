@@ -7,5 +7,7 @@ pub mod Lives
 pub mod SlotTurn
 pub mod OtherGuests
 pub mod Staying
+pub mod SlotCounts
 pub mod Stepping
 pub mod Furthering
+pub mod Rising

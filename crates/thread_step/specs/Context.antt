@@ -138,12 +138,11 @@ pub record WorksIn (key : TableId) (p : Pass HallOf) (t : ℕ) (g : Guest) (h : 
   pub saw : Saw p h
   pub runs : Runs h t g
 
--- after a look, before which nothing of the slot was added
+-- after a look, before which entries of other slots alone were added
 pub record LookedIn (a : Looked) (p : Pass HallOf) (old new : Guest) (h : HallOf) : Type 0 where
   pub hall : HallOf
   pub saw : Saw p hall
-  pub case : hall.case ≡ h.case
-  pub none : own old.slot hall.journal ≡ own old.slot h.journal
+  pub goes : GoesOn old.slot h hall
   pub ready : IsReady hall old
   pub looked : LookedIs a hall old new
 
@@ -186,6 +185,10 @@ pub record TookTurn (a : Turned) (key : TableId) (most : ℕ) (old new : Context
 
 abbrev pub context_slot : Context → ℕ
 context_slot ctx = ctx.guest.slot
+
+-- the private steps of the slot's thread since its last entry
+abbrev pub context_steps : Context → ℕ
+context_steps ctx = ctx.guest.own.k
 
 abbrev pub context_pass : Context → Option (Pass HallOf)
 context_pass ctx = ctx.pass

@@ -3,6 +3,7 @@ use Rattle.thread_step.specs.declared.worker.Stepped.TheVariants as stepped
 use Rattle.turn_lock.specs.Lock.{lock_id}
 use Rattle.thread_step.specs.Context.{Further, SteppedIn, WorksIn, wait_in}
 use Rattle.thread_step.proofs.Furthering.{further_more, turned_then}
+use Rattle.thread_step.proofs.Rising.{rises_after}
 use Rattle.thread_step.proofs.Staying.{ended_ready, runs_ready}
 use Rattle.thread_step.proofs.worker.run.Goals as goal
 
@@ -65,3 +66,9 @@ returns-in-Memory-clause-left g c = λ h w.
       further = further_more _ c.args.t c.args.rules.turn c.args.rules.turn 0 1 h q.hall (omega arith) (omega arith) q.further;
       cause = tt;
     }
+
+pub returns-in-On-clause-count : goal.returns-in-On-clause-count
+returns-in-On-clause-count g c = λ h n w saw.
+    let q : SteppedIn stepped.On c.steps-pass.result.0 c.args.t c.args.rules.turn 0 c.steps-pass.new.guest h = subst (λ a. SteppedIn a c.steps-pass.result.0 c.args.t c.args.rules.turn (wait_in a) c.steps-pass.new.guest h) c.in-On.is (c.steps-pass.ensures.stepped h w) in
+    let works : WorksIn (lock_id c.args.lock.now) c.steps-pass.result.0 c.args.t c.steps-pass.new.guest q.hall = record { lock = c.steps-pass.ensures.lock; number = c.steps-pass.ensures.number ∙ w.number ∙ sym c.steps-pass.ensures.slot; saw = q.saw; runs = q.stepped } in
+    rises_after c.args.guest.now.slot c.steps-pass.new.guest.slot _ _ c.args.guest.now.own.k c.steps-pass.new.guest.own.k c.finish.new.guest.own.k h q.hall n c.steps-pass.ensures.slot c.finish.ensures.told (c.finish.ensures.steps q.hall n works saw) (c.steps-pass.ensures.count h q.hall w q.saw)
