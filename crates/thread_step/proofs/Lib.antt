@@ -1,5 +1,7 @@
 pub mod Spending
 pub mod Counting
+pub mod Stuck
+pub mod Budget
 pub mod Turning
 pub mod Whole
 pub mod Starting
@@ -10,4 +12,5 @@ pub mod Staying
 pub mod SlotCounts
 pub mod Stepping
 pub mod Furthering
+pub mod Causes
 pub mod Rising

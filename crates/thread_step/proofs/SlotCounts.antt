@@ -4,6 +4,7 @@ use Rattle.std.specs.Prelude.{All, if◌then◌else◌}
 use Rattle.std.proofs.lemmas.Bool.{eqb-false}
 use Rattle.std.proofs.lemmas.Bool.Decides.{nat_tests}
 use Rattle.std.proofs.lemmas.List.Elements.{All-head, All-tail}
+use Rattle.address_space.proofs.Numbers.{slot_below}
 use Rattle.address_space.specs.Slots.{slot_of}
 use Rattle.journal_pack.specs.declared.entry.Entry.{Entry}
 use Rattle.journal_pack.specs.declared.entry.Entry.TheVariants.{Ev, Tick, Flush, Wait, Miss, Grow, Over, Full, Dead}
@@ -94,19 +95,15 @@ unfolding slot_steps_from picked slots_from
 slots_cons c zero b e es = omega arith
 slots_cons c (suc n) b e es = let on = slots_cons c n b e es in omega (arith, on)
 
-pub low_slot : (t : ℕ) → slot_of t < 64
-unfolding slot_of
-low_slot t = omega arith
-
 -- an entry's steps are among those of the slots
 entry_within : (c : CaseData) (m : Machine) (e : Entry) → entry_steps c.image m e ≤ picked 64 (slot_in e) (entry_steps c.image m e)
-entry_within c m (Ev t k) = picks 64 (slot_of t) (entry_steps c.image m (Ev t k)) (low_slot t)
-entry_within c m (Tick t k) = picks 64 (slot_of t) k (low_slot t)
+entry_within c m (Ev t k) = picks 64 (slot_of t) (entry_steps c.image m (Ev t k)) (slot_below t)
+entry_within c m (Tick t k) = picks 64 (slot_of t) k (slot_below t)
 entry_within c m (Flush t) = omega arith
-entry_within c m (Wait t k) = picks 64 (slot_of t) k (low_slot t)
-entry_within c m (Miss t k source target) = picks 64 (slot_of t) k (low_slot t)
+entry_within c m (Wait t k) = picks 64 (slot_of t) k (slot_below t)
+entry_within c m (Miss t k source target) = picks 64 (slot_of t) k (slot_below t)
 entry_within c m (Grow t a) = omega arith
-entry_within c m (Over t k) = picks 64 (slot_of t) k (low_slot t)
+entry_within c m (Over t k) = picks 64 (slot_of t) k (slot_below t)
 entry_within c m (Full t) = omega arith
 entry_within c m Dead = omega arith
 

@@ -10,9 +10,9 @@ ghost use Rattle.machine_model.specs.Gated.{Leads, Stand, begin};
 ghost use Rattle.hall_core.specs.Hall.{both, machine};
 ghost use Rattle.guest_parts.specs.Running.{Rises};
 ghost use Rattle.guest_entries.specs.Steps.{instruction_steps};
-ghost use Rattle.thread_step.specs.Costs.{Spends};
+ghost use Rattle.thread_step.specs.Costs.{Spends, costs, slot_costs};
 ghost use Rattle.thread_step.specs.Counts.{slot_steps};
-ghost use Rattle.thread_step.specs.Context.{Cause, GoesOn, HallOf, HoldsIn, IsContext, IsTaken, LookedIn, LookedIs, Runs, Saw, SteppedIn, SteppedIs, TookTurn, TurnedBy, TurnedIn, WorksIn, Wrote, context_pass, context_slot, context_steps, cost_in, wait_in};
+ghost use Rattle.thread_step.specs.Context.{BudgetIs, EndsWith, GoesOn, HallOf, HoldsIn, IsContext, IsTaken, LookedIn, LookedIs, Runs, Saw, SteppedIn, SteppedIs, TookTurn, TurnedBy, TurnedIn, WorksIn, Wrote, context_pass, context_slot, context_steps, cost_in, wait_in};
 ghost use Rattle.thread_step.specs.declared.rules.Turned.TheVariants as turned;
 ghost use Rattle.thread_step.specs.Guest.{IsLeft, IsReady};
 ghost use Rattle.thread_step.specs.Turned.{AreRules, Ready};
@@ -118,6 +118,7 @@ fn step_in<L: Lifter, N: Engine>(
     ensures case { hall.new.case ≡ hall.old.case }
     ensures spends { Spends t (cost_in result) (wait_in result) hall.old.journal hall.new.journal }
     ensures stepped { SteppedIs result hall.new t guest.new }
+    ensures budget { BudgetIs result 1 (costs hall.old.journal) (costs hall.new.journal) }
     ensures count { Rises (N.count engine.old) (N.count engine.new) ((instruction_steps hall.old.case hall.new.journal + guest.new.own.k) - (instruction_steps hall.old.case hall.old.journal + guest.old.own.k)) }
 {
     hall.facts();
@@ -195,6 +196,7 @@ fn step<R: Wait, L: Lifter, N: Engine, G: Gate>(
     ensures number { pass_number result.0 ≡ pass_number pass }
     ensures slot { guest.new.slot ≡ guest.old.slot }
     ensures stepped { (h : HallOf) → WorksIn (lock_id lock.now) pass t guest.old h → SteppedIn result.1 result.0 t (cost_in result.1) (wait_in result.1) guest.new h }
+    ensures budget { (h n : HallOf) → WorksIn (lock_id lock.now) pass t guest.old h → Saw result.0 n → BudgetIs result.1 1 (slot_costs guest.old.slot h.journal) (slot_costs guest.old.slot n.journal) }
     ensures count { (h n : HallOf) → WorksIn (lock_id lock.now) pass t guest.old h → Saw result.0 n → Rises (N.count engine.old) (N.count engine.new) ((slot_steps n.case guest.old.slot n.journal + guest.new.own.k) - (slot_steps h.case guest.old.slot h.journal + guest.old.own.k)) }
 {
     go_ahead(guest, engine);
@@ -222,6 +224,7 @@ fn steps<R: Wait, L: Lifter, N: Engine, G: Gate>(
     ensures number { pass_number result.0 ≡ pass_number pass }
     ensures slot { guest.new.slot ≡ guest.old.slot }
     ensures stepped { (h : HallOf) → WorksIn (lock_id lock.now) pass t guest.old h → SteppedIn result.1 result.0 t budget (wait_in result.1) guest.new h }
+    ensures budget { (h n : HallOf) → WorksIn (lock_id lock.now) pass t guest.old h → Saw result.0 n → BudgetIs result.1 budget (slot_costs guest.old.slot h.journal) (slot_costs guest.old.slot n.journal) }
     ensures count { (h n : HallOf) → WorksIn (lock_id lock.now) pass t guest.old h → Saw result.0 n → Rises (N.count engine.old) (N.count engine.new) ((slot_steps n.case guest.old.slot n.journal + guest.new.own.k) - (slot_steps h.case guest.old.slot h.journal + guest.old.own.k)) }
 {
     let mut pass = pass;
@@ -248,7 +251,7 @@ fn grow_older(guest: &mut Guest, hall: &mut Hall<Block>, t: u32, hold: u32) -> T
     ensures told { guest.new.own.k ≡ guest.old.own.k }
     ensures steps { instruction_steps hall.old.case hall.new.journal ≡ instruction_steps hall.old.case hall.old.journal }
     ensures left { IsLeft result hall.new guest.new }
-    ensures cause { (h : HallOf) → Cause result h hall.new guest.new }
+    ensures ends { EndsWith result hall.new }
     ensures lives { result ≢ turned.Idle }
 {
     if has_ended(hall) {
@@ -351,9 +354,11 @@ fn turn_with<R: Wait, L: Lifter, N: Engine, G: Gate>(
 /// shared state, which is taken for each entry and given back at once. A gate is passed before each of them. At most
 /// `rules.turn` entries cost of the budget, and at the turn's end the waiting writes that are too old go to memory.
 ///
-/// `Ended`: the run has an ending. `Idle`: no thread lives in the slot. `Waiting`: the thread stands at a call that waits.
-/// `Memory`: memory for entries, for a block at hand, for a call of the library or for the growth of a place was wanting; the
-/// guest stands with its thread. Else `Ran`. All is said of the state at the turn's last look.
+/// `Ended`: the run has an ending. `Idle`: no thread lives in the slot, and no entry of it was added. `Waiting`: less than the
+/// budget was spent, and the thread stands at a call that waits, with no private steps and no waiting writes. `Ran`: just the
+/// budget was spent, or the thread's life ended. `Memory`: memory for entries, for a block at hand, for a call of the library or
+/// for the growth of a place was wanting; the guest stands with its thread. All is said of the state at the turn's last look;
+/// at `Waiting` and `Ran` the thread lived at the first one.
 ///
 /// The engine's count rises at least by the steps of instructions of the slot's entries that were added, and by the private
 /// steps since the last of them in place of those before the turn, or stands at its type's end.
