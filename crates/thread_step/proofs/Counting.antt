@@ -145,10 +145,10 @@ after_miss_counted c reach t g most false s x h p = full_or_counted c reach t g 
 -- ---- before an event
 
 -- its thread is as far along as before
-record Before (c : CaseData) (most t k : ℕ) (d : Stand) (s : Turn) : Type 0 where
-  counted : Counted c most s
-  whole : IsWhole s.both
-  ahead : IsAhead c s.both (slot_of t) k d
+pub record Before (c : CaseData) (most t k : ℕ) (d : Stand) (s : Turn) : Type 0 where
+  pub counted : Counted c most s
+  pub whole : IsWhole s.both
+  pub ahead : IsAhead c s.both (slot_of t) k d
 
 flush_before : (c : CaseData) (most t k : ℕ) (d : Stand) (s x : Turn) → Before c most t k d s → flush c t s ≡ Some x → Before c most t k d x
 flush_before c most t k d s x h p =
@@ -163,7 +163,7 @@ flush_before c most t k d s x h p =
       ahead = subst (λ (y : Turn). IsAhead c y.both (slot_of t) k d) m.is (ap (λ z. gated_steps c.image z k (stand_at m.both (slot_of t))) v.2 ∙ ap (gated_steps c.image s.both.gate.grown k) v.0.stand ∙ h.ahead);
     }
 
-flushes_before : (c : CaseData) (most t k n : ℕ) (d : Stand) (s x : Turn) → Before c most t k d s → flush_some c t n s ≡ Some x → Before c most t k d x
+pub flushes_before : (c : CaseData) (most t k n : ℕ) (d : Stand) (s x : Turn) → Before c most t k d s → flush_some c t n s ≡ Some x → Before c most t k d x
 unfolding flush_some
 flushes_before c most t k zero d s x h p = subst (Before c most t k d) (same_Some s x p) h
 flushes_before c most t k (suc n) d s x h p = option_and_then_some (flush_some c t n) (flush c t s) x p (λ y q r. flushes_before c most t k n d y x (flush_before c most t k d s y h q) r)

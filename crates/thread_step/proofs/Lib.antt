@@ -1,5 +1,7 @@
 pub mod Spending
 pub mod Counting
+pub mod Stuck
+pub mod Budget
 pub mod Turning
 pub mod Whole
 pub mod Starting
@@ -7,5 +9,8 @@ pub mod Lives
 pub mod SlotTurn
 pub mod OtherGuests
 pub mod Staying
+pub mod SlotCounts
 pub mod Stepping
 pub mod Furthering
+pub mod Causes
+pub mod Rising

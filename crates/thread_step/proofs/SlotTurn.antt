@@ -74,7 +74,7 @@ turn_before h t r own mid d x k ages q = λ reach right. subst (λ n. turn h.cas
 
 pub turned_before : (a : Turned) (h new : HallData Block) (t : ℕ) (r : Rules) (own mid after : Own) (table : Table) (d : Stand) → mid.k ≡ own.k → mid.ages ≡ own.ages → TurnIs a h new t r mid after table d → TurnIs a h new t r own after table d
 turned_before Ran h new t r own mid after table d k ages q = record { case = q.case; turn = turn_before h t r own mid d _ k ages q.turn; going = q.going; told = q.told; ready = q.ready; gone = q.gone; marks = q.marks }
-turned_before Waiting h new t r own mid after table d k ages q = record { case = q.case; turn = turn_before h t r own mid d _ k ages q.turn; going = q.going; told = q.told; ready = q.ready; none = q.none; marked = q.marked; marks = q.marks }
+turned_before Waiting h new t r own mid after table d k ages q = record { case = q.case; turn = turn_before h t r own mid d _ k ages q.turn; going = q.going; told = q.told; ready = q.ready; none = q.none; stuck = q.stuck; marked = q.marked; marks = q.marks }
 turned_before Ended h new t r own mid after table d k ages q = record { case = q.case; turn = turn_before h t r own mid d _ k ages q.turn; ended = q.ended; marks = q.marks }
 turned_before Idle h new t r own mid after table d k ages q = q
 turned_before (Memory e) h new t r own mid after table d k ages q = record { case = q.case; stand = q.stand; along = q.along; fresh = q.fresh; adds = q.adds; begins = λ x turns. q.begins x (turn_before h t r mid own d x (sym k) (sym ages) turns); marks = q.marks }

@@ -47,18 +47,18 @@ one t j e own =
 
 -- ---- what is made
 
-make_spends : (c : CaseData) (t : ℕ) (e : Entry) (s x : Turn) → thread_of e ≡ Some t → make c e s ≡ Some x → Spends t (cost_of e) (wait_of e) s.journal x.journal
+pub make_spends : (c : CaseData) (t : ℕ) (e : Entry) (s x : Turn) → thread_of e ≡ Some t → make c e s ≡ Some x → Spends t (cost_of e) (wait_of e) s.journal x.journal
 make_spends c t e s x own p =
     let m = made c e s x p in
     subst (λ (y : Turn). Spends t (cost_of e) (wait_of e) s.journal y.journal) m.is (one t s.journal e own)
 
-waiting_stays : (c : CaseData) (e : Entry) (s x : Turn) → make c e s ≡ Some x → x.waiting ≡ s.waiting
+pub waiting_stays : (c : CaseData) (e : Entry) (s x : Turn) → make c e s ≡ Some x → x.waiting ≡ s.waiting
 waiting_stays c e s x p = ap (λ (y : Turn). y.waiting) (sym (made c e s x p).is)
 
 -- nothing was spent, and whether the thread waits is as it was
-record IsNothing (t : ℕ) (s x : Turn) : Type 0 where
-  free : Spends t 0 0 s.journal x.journal
-  waiting : x.waiting ≡ s.waiting
+pub record IsNothing (t : ℕ) (s x : Turn) : Type 0 where
+  pub free : Spends t 0 0 s.journal x.journal
+  pub waiting : x.waiting ≡ s.waiting
 
 nothing_same : (t : ℕ) (s x : Turn) → Some s ≡ Some x → IsNothing t s x
 nothing_same t s x p = subst (λ (y : Turn). IsNothing t s y) (same_Some s x p) (record { free = spends_none t s.journal; waiting = refl })
@@ -72,7 +72,7 @@ nothing_made c t e s x own cost wait p = record {
   waiting = waiting_stays c e s x p;
 }
 
-flushes_nothing : (c : CaseData) (t n : ℕ) (s x : Turn) → flush_some c t n s ≡ Some x → IsNothing t s x
+pub flushes_nothing : (c : CaseData) (t n : ℕ) (s x : Turn) → flush_some c t n s ≡ Some x → IsNothing t s x
 unfolding flush_some
 flushes_nothing c t zero s x p = nothing_same t s x p
 flushes_nothing c t (suc n) s x p = option_and_then_some (flush_some c t n) (flush c t s) x p (λ y a b.
@@ -92,7 +92,7 @@ full_or_nothing : (c : CaseData) (reach : Reaches) (t g : ℕ) (s x : Turn) (ful
 full_or_nothing c reach t g s x true p = nothing_made c t (Full t) s x refl refl refl p
 full_or_nothing c reach t g s x false p = option_and_then_some (grow_reach c t (reach g)) (make c (Grow t g) s) x p (λ y q r. nothing_then t s y x (nothing_made c t (Grow t g) s y refl refl refl q) (grow_if_nothing c t (ungrown y.both.gate.grown (reach g)) y x _ r))
 
-after_miss_nothing : (c : CaseData) (reach : Reaches) (t g : ℕ) (strict : Bool) (s x : Turn) → after_miss c reach t g strict s ≡ Some x → IsNothing t s x
+pub after_miss_nothing : (c : CaseData) (reach : Reaches) (t g : ℕ) (strict : Bool) (s x : Turn) → after_miss c reach t g strict s ≡ Some x → IsNothing t s x
 after_miss_nothing c reach t g true s x p = nothing_same t s x p
 after_miss_nothing c reach t g false s x p = full_or_nothing c reach t g s x _ p
 

@@ -1,11 +1,13 @@
 -- One step of a worker's turn: what an entry leaves of a guest whose thread runs.
-use Rattle.std.proofs.Common.{◌≡◌, ℕ, ◌<◌, ◌≤◌, inl, Bool, true, false, List, Some, None, Result, Ok, Err, refl, sym, subst, ap, ◌∙◌}
+use Rattle.std.proofs.Common.{◌≡◌, ℕ, ◌<◌, ◌≤◌, inl, Bool, true, false, List, [], ◌∷◌, ◌+◌, length, Some, None, Result, Ok, Err, arith, refl, sym, subst, ap, ◌∙◌}
 use Rattle.std.specs.declared.alloc.AllocError.{AllocError}
 use Rattle.address_space.specs.Slots.{slot_of}
 use Rattle.lib_table.specs.Library.{life_at}
 use Rattle.machine_model.specs.Gated.{Leads, Stand, begin, stand_at}
 use Rattle.machine_model.specs.Ready.{HasGrown}
-use Rattle.machine_model.specs.State.{is_live, thread_in}
+use Rattle.tso_memory.specs.declared.write.PendingWrite.{PendingWrite}
+use Rattle.machine_model.specs.Own.{writes_at}
+use Rattle.machine_model.specs.State.{is_live, list_at, thread_in}
 use Rattle.machine_model.proofs.Gates.{halfway, leads_same}
 use Rattle.machine_model.proofs.Own.{whole_from}
 use Rattle.machine_model.proofs.Reaches.{are_reaches, reach_of}
@@ -21,9 +23,10 @@ use Rattle.guest_entries.proofs.Adding.{settle_free}
 use Rattle.guest_entries.specs.Steps.{Adds}
 use Rattle.thread_step.specs.declared.guest.Guest.{Guest}
 use Rattle.thread_step.specs.Context.{HallOf, Runs}
-use Rattle.thread_step.specs.Costs.{Spends}
+use Rattle.thread_step.specs.Costs.{Spends, costs}
 use Rattle.thread_step.specs.Guest.{IsReady, IsStanding}
 use Rattle.thread_step.specs.Turned.{Broke, EntryIs, Ready, Stayed, Went}
+use Rattle.thread_step.proofs.Budget.{act_costs}
 use Rattle.thread_step.proofs.Lives.{LivesOrNone, lives_there, none_left, own_lives}
 use Rattle.thread_step.proofs.SlotTurn.{gone_ready, live_born, standing, still_born}
 use Rattle.thread_step.proofs.Spending.{acts_spends, acts_waits, free_spends}
@@ -47,6 +50,17 @@ went_spends h new t before after table d q = acts_spends h.case (reach_of h.case
 
 pub stayed_spends : (h new : HallOf) (t : ℕ) (before after : Own) (table : Table) (d : Stand) → Stayed h new t before after table d → Spends t 0 1 h.journal new.journal
 stayed_spends h new t before after table d q = acts_waits h.case (reach_of h.case.image) t (point_at q.one.k q.one.stop) (turn_in h before.ages) (waiting_of (both new) new.journal after.ages) q.one.rule (q.one.acts (reach_of h.case.image) (are_reaches h.case.image)) refl refl
+
+pub went_costs : (h new : HallOf) (t : ℕ) (before after : Own) (table : Table) (d : Stand) → Went h new t before after table d → (machine new).ending ≡ None → costs new.journal ≡ costs h.journal + 1
+went_costs h new t before after table d q going = act_costs h.case (reach_of h.case.image) t (point_at q.one.k q.one.stop) (turn_in h before.ages) (turn_in new after.ages) q.one.rule (q.one.acts (reach_of h.case.image) (are_reaches h.case.image)) refl going
+
+-- no write waits where the thread does
+pub stayed_empty : (h new : HallOf) (t s : ℕ) (before after : Own) (table : Table) (d : Stand) → slot_of t ≡ s → Stayed h new t before after table d → list_at (machine new) s ≡ []
+stayed_empty h new t s before after table d slot q = subst (λ z. list_at (machine new) z ≡ []) slot (no_items (writes_at (both new) t) (sym q.ready.along.with.ages ∙ ap length q.none))
+  where
+    no_items : (xs : List PendingWrite) → length xs ≡ 0 → xs ≡ []
+    no_items [] e = refl
+    no_items (x ∷ xs) e = absurd (omega arith)
 
 -- ---- the guest after it
 

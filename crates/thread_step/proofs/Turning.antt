@@ -18,6 +18,7 @@ use Rattle.basic_blocks.specs.Places.{is_code_place}
 use Rattle.basic_blocks.specs.Reach.{is_among}
 use Rattle.machine_model.specs.CaseData.{CaseData}
 use Rattle.machine_model.specs.Gated.{Both, Stand, gated_steps}
+use Rattle.machine_model.specs.Own.{IsAhead}
 use Rattle.machine_model.specs.Ready.{HasGrown}
 use Rattle.machine_model.specs.Serial.{AtEvent, GoesOn, Point, Reaches, Rule, Turn, act, is_over, point_of, rule_at, stop_from, turn_from, unless_over}
 use Rattle.machine_model.specs.Step.{privately}
@@ -44,6 +45,7 @@ use Rattle.guest_entries.proofs.Adding.{adds_none, partly_adds}
 use Rattle.guest_entries.proofs.Begins.{Begins, begins_same, begins_then, turn_from_begins}
 use Rattle.guest_steps.proofs.Moves.{wanted_there}
 use Rattle.thread_step.proofs.Spending.{partly_spends, spends_more, spends_none}
+use Rattle.thread_step.proofs.Stuck.{waits_stuck}
 
 -- ---- the rule where a guest stops
 
@@ -157,6 +159,7 @@ module _ (h new : HallData Block) (t spare : ℕ) (own before mid after : Own) (
     };
     ready = record { along = q.along; grown = subst (λ (c : CaseData). HasGrown c.image (both new) (slot_of t)) (sym q.case) q.settled; fresh = subst (AreAges 255) (sym q.none) tt };
     none = q.none;
+    stuck = waits_stuck h new t mid.k mid.ages after.ages e m.along.going.whole (subst (λ k. IsAhead h.case (both h) (slot_of t) k e) same_k m.along.with.ahead) q.case q.acts;
     marked = q.marked;
   }
 

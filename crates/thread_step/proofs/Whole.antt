@@ -153,6 +153,7 @@ module _ (h now : HallData Block) (t : ℕ) (r : Rules) (own mid : Own) (table :
         told = q.one.told;
         ready = q.ready;
         none = q.none;
+        stuck = q.stuck;
         marked = q.marked;
         marks = marks_are new after left x q.one;
       }

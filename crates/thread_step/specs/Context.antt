@@ -1,5 +1,5 @@
 -- A guest with a pass to the shared state, and what other threads' entries leave of it.
-use Rattle.std.specs.Prelude.{◌≡◌, ◌<◌, ℕ, false, List, [], ◌++◌, Option, Some, None, IsSome}
+use Rattle.std.specs.Prelude.{◌≡◌, ◌<◌, ◌+◌, ◌⊎◌, ℕ, false, List, [], ◌++◌, Option, Some, None, IsSome}
 use Rattle.atomic_table.specs.Seated.{TableId}
 use Rattle.address_space.specs.Slots.{slot_of}
 use Rattle.ir_syntax.specs.declared.block.Block.{Block}
@@ -11,20 +11,20 @@ use Rattle.turn_lock.specs.Words.{held_case, lock_of, pass_case, pass_number, pa
 use Rattle.machine_model.specs.CaseData.{CaseData}
 use Rattle.machine_model.specs.Gated.{Leads, Stand, begin}
 use Rattle.machine_model.specs.Play.{own}
-use Rattle.machine_model.specs.State.{is_live, thread_in}
+use Rattle.machine_model.specs.State.{is_live, list_at, thread_in}
 use Rattle.machine_model.specs.Step.{slot_in}
 use Rattle.hall_core.specs.Hall.{HallData, both, machine}
 use Rattle.thread_step.specs.declared.guest.Guest.{Guest}
 use Rattle.thread_step.specs.declared.context.Context.{Context}
 use Rattle.thread_step.specs.declared.rules.Turned.{Turned}
 use Rattle.thread_step.specs.declared.rules.Turned.TheVariants.{Ended, Idle, Memory, Ran, Waiting}
-use Rattle.thread_step.specs.Costs.{AreSpent}
+use Rattle.thread_step.specs.Costs.{AreSpent, slot_costs}
 use Rattle.thread_step.specs.declared.worker.Looked.{Looked}
 use Rattle.thread_step.specs.declared.worker.Looked.TheVariants as looked
 use Rattle.thread_step.specs.declared.worker.Stepped.{Stepped}
 use Rattle.thread_step.specs.declared.worker.Stepped.TheVariants as stepped
 use Rattle.thread_step.specs.Guest.{IsLeft, IsReady, IsStanding}
-use Rattle.thread_step.specs.Turned.{Ready}
+use Rattle.thread_step.specs.Turned.{Ready, StandsAtWait}
 
 abbrev pub HallOf : Type 0
 HallOf = HallData Block
@@ -83,7 +83,7 @@ LookedIs (looked.Lives t) h old new = Runs h t new
 -- one step of a turn, with the state as it was taken and as it is now
 abbrev pub SteppedIs : Stepped → HallOf → ℕ → Guest → Type 0
 SteppedIs stepped.On new t g = Runs new t g
-SteppedIs stepped.Waits new t g = Runs new t g × (g.own.k ≡ 0)
+SteppedIs stepped.Waits new t g = Runs new t g × (g.own.k ≡ 0) × StandsAtWait new t × (list_at (machine new) g.slot ≡ [])
 SteppedIs stepped.Gone new t g = ((machine new).ending ≡ None) × (is_live (machine new) t ≡ false) × IsReady new g
 SteppedIs stepped.Ended new t g = IsSome (machine new).ending × (g.slot < 64)
 SteppedIs (stepped.Memory e) new t g = IsStanding new g
@@ -97,6 +97,8 @@ pub record Further (s t most few : ℕ) (old new : HallOf) : Type 0 where
   pub entries : List Entry
   pub is : own s new.journal ≡ own s old.journal ++ entries
   pub spent : AreSpent t most few entries
+  pub more : List Entry
+  pub journal : new.journal ≡ old.journal ++ more
 
 -- what a step costs, and how many entries it makes before a call that waits
 abbrev pub cost_in : Stepped → ℕ
@@ -113,14 +115,57 @@ wait_in stepped.Gone = 0
 wait_in stepped.Ended = 0
 wait_in (stepped.Memory e) = 0
 
--- why a turn ended, by the state at its last look: it had an ending; no thread lived in the slot, and no entry was made; the
--- thread lives, told its private steps and is marked; or the budget was spent or the thread's life ended
-abbrev pub Cause : Turned → HallOf → HallOf → Guest → Type 0
-Cause Ended old new g = IsSome (machine new).ending
-Cause Idle old new g = ((machine new).ending ≡ None) × (thread_in (machine new) g.slot ≡ None) × (own g.slot new.journal ≡ own g.slot old.journal)
-Cause Waiting old new g = ((machine new).ending ≡ None) × (g.own.k ≡ 0)
-Cause Ran old new g = (machine new).ending ≡ None
-Cause (Memory e) old new g = Unit {0}
+-- Steps with so much of a budget, by what the slot's entries cost before and after them: it was spent where the thread goes
+-- on, and some is left where the thread waits.
+abbrev pub BudgetIs : Stepped → ℕ → ℕ → ℕ → Type 0
+BudgetIs stepped.On most before after = after ≡ before + most
+BudgetIs stepped.Waits most before after = after < before + most
+BudgetIs stepped.Gone most before after = Unit {0}
+BudgetIs stepped.Ended most before after = Unit {0}
+BudgetIs (stepped.Memory e) most before after = Unit {0}
+
+-- the run went on and thread t lived in the slot at the turn's first look, before which other slots alone had entries
+pub record Lived (s t : ℕ) (old new : HallOf) : Type 0 where
+  pub first : HallOf
+  pub goes : GoesOn s old first
+  pub going : (machine first).ending ≡ None
+  pub lives : thread_in (machine first) s ≡ Some t
+  pub rest : List Entry
+  pub journal : new.journal ≡ first.journal ++ rest
+
+-- The thread lived at the first look. At the last one it stands at a call that waits, with no private steps and no waiting
+-- writes, and less than the budget was spent.
+pub record CameToWait (t most : ℕ) (old new : HallOf) (g : Guest) : Type 0 where
+  pub going : (machine new).ending ≡ None
+  pub lived : Lived g.slot t old new
+  pub lives : thread_in (machine new) g.slot ≡ Some t
+  pub stuck : StandsAtWait new t
+  pub empty : list_at (machine new) g.slot ≡ []
+  pub told : g.own.k ≡ 0
+  pub left : slot_costs g.slot new.journal < slot_costs g.slot old.journal + most
+
+-- the thread lived at the first look; just the budget was spent, or the thread's life ended
+pub record RanOut (t most : ℕ) (old new : HallOf) (g : Guest) : Type 0 where
+  pub going : (machine new).ending ≡ None
+  pub lived : Lived g.slot t old new
+  pub why : (slot_costs g.slot new.journal ≡ slot_costs g.slot old.journal + most) ⊎ (is_live (machine new) t ≡ false)
+
+-- why a turn of thread t with this budget ended, by the state at its last look: it had an ending; no thread lived in the slot,
+-- and no entry was made; the thread came to a call that waits; or the budget was spent or the thread's life ended
+abbrev pub Cause : Turned → ℕ → ℕ → HallOf → HallOf → Guest → Type 0
+Cause Ended t most old new g = IsSome (machine new).ending
+Cause Idle t most old new g = ((machine new).ending ≡ None) × (thread_in (machine new) g.slot ≡ None) × (own g.slot new.journal ≡ own g.slot old.journal)
+Cause Waiting t most old new g = CameToWait t most old new g
+Cause Ran t most old new g = RanOut t most old new g
+Cause (Memory e) t most old new g = Unit {0}
+
+-- how a turn ends after its steps, once the waiting writes are older
+abbrev pub EndsWith : Turned → HallOf → Type 0
+EndsWith Ended new = IsSome (machine new).ending
+EndsWith Idle new = ⊥
+EndsWith Waiting new = ⊥
+EndsWith Ran new = (machine new).ending ≡ None
+EndsWith (Memory e) new = Unit {0}
 
 -- ---- passes
 
@@ -138,12 +183,11 @@ pub record WorksIn (key : TableId) (p : Pass HallOf) (t : ℕ) (g : Guest) (h : 
   pub saw : Saw p h
   pub runs : Runs h t g
 
--- after a look, before which nothing of the slot was added
+-- after a look, before which entries of other slots alone were added
 pub record LookedIn (a : Looked) (p : Pass HallOf) (old new : Guest) (h : HallOf) : Type 0 where
   pub hall : HallOf
   pub saw : Saw p hall
-  pub case : hall.case ≡ h.case
-  pub none : own old.slot hall.journal ≡ own old.slot h.journal
+  pub goes : GoesOn old.slot h hall
   pub ready : IsReady hall old
   pub looked : LookedIs a hall old new
 
@@ -161,7 +205,7 @@ pub record TurnedBy (a : Turned) (p : Pass HallOf) (t most : ℕ) (new : Guest) 
   pub left : IsLeft a hall new
   pub slot : slot_of t ≡ new.slot
   pub further : Further new.slot t most 1 h hall
-  pub cause : Cause a h hall new
+  pub cause : Cause a t most h hall new
 
 -- a turn is of one thread of the slot
 abbrev pub TurnedIn : Turned → Pass HallOf → ℕ → Guest → HallOf → Type 0
@@ -186,6 +230,10 @@ pub record TookTurn (a : Turned) (key : TableId) (most : ℕ) (old new : Context
 
 abbrev pub context_slot : Context → ℕ
 context_slot ctx = ctx.guest.slot
+
+-- the private steps of the slot's thread since its last entry
+abbrev pub context_steps : Context → ℕ
+context_steps ctx = ctx.guest.own.k
 
 abbrev pub context_pass : Context → Option (Pass HallOf)
 context_pass ctx = ctx.pass

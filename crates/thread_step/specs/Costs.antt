@@ -3,6 +3,7 @@ use Rattle.std.specs.Prelude.{◌≡◌, ℕ, ◌≤◌, List, ◌++◌}
 use Rattle.std.specs.List.{sum_by}
 use Rattle.journal_pack.specs.declared.entry.Entry.{Entry}
 use Rattle.journal_pack.specs.declared.entry.Entry.TheVariants.{Ev, Tick, Flush, Wait, Miss, Grow, Over, Full, Dead}
+use Rattle.machine_model.specs.Play.{own}
 use Rattle.machine_laws.specs.Others.{AreOf}
 
 -- an event, a miss, and an entry that tells private steps alone cost one of a turn's budget
@@ -40,3 +41,11 @@ pub record Spends (t most few : ℕ) (before after : List Entry) : Type 0 where
   pub entries : List Entry
   pub journal : after ≡ before ++ entries
   pub spent : AreSpent t most few entries
+
+-- what entries cost together
+abbrev pub costs : List Entry → ℕ
+costs entries = sum_by cost_of entries
+
+-- those of slot s
+abbrev pub slot_costs : ℕ → List Entry → ℕ
+slot_costs s journal = costs (own s journal)

@@ -1,5 +1,6 @@
 -- What the contracts of the crate cite.
 pub mod Costs
+pub mod Counts
 pub mod Turned
 pub mod Guest
 pub mod Alone

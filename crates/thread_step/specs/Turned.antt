@@ -11,6 +11,7 @@ use Rattle.machine_model.specs.Ready.{HasGrown}
 use Rattle.machine_model.specs.Serial as serial
 use Rattle.machine_model.specs.Serial.{AreReaches, AtEvent, AtLimit, AtMiss, AtMost, Reaches, Rule, Turn, turn, turn_from}
 use Rattle.machine_model.specs.State.{is_live}
+use Rattle.machine_model.specs.Step.{cpu_at, waits_at}
 use Rattle.hall_core.specs.Hall.{HallData, both, mark_at}
 use Rattle.guest_parts.specs.Points.{Acts, ComesTo, point_at, waiting_of}
 use Rattle.guest_steps.specs.declared.own.Own.{Own}
@@ -50,6 +51,10 @@ ActIs (Ok false) old new t before after table d r = Entered old new t before aft
 ActIs (Ok true) old new t before after table d r = Waited old new t before after table d × (r ≡ AtEvent)
 ActIs (Err e) old new t before after table d r = Partly old new t before after table d r
 
+-- thread t stands at a call that waits for another thread
+abbrev pub StandsAtWait : HallData Block → ℕ → Type 0
+StandsAtWait h t = waits_at h.case.image (both h).machine t (cpu_at (both h).machine (slot_of t)) ≡ true
+
 -- a guest that may begin a turn, at this stand of its thread
 pub record Ready (h : HallData Block) (t : ℕ) (own : Own) (table : Table) (d : Stand) : Type 0 where
   pub along : AlongIn h t own table d
@@ -77,6 +82,7 @@ pub record Stayed (old new : HallData Block) (t : ℕ) (before after : Own) (tab
   pub one : OneEntry old new t before after table d (waiting_of (both new) new.journal after.ages)
   pub ready : Ready new t after table (stand_at (both new) (slot_of t))
   pub none : after.ages ≡ []
+  pub stuck : StandsAtWait new t
   pub marked : IsSome (mark_at new (slot_of t))
 
 -- memory was wanting; what was done so far is how the turn goes on, with any budget
@@ -129,6 +135,7 @@ pub record WaitedTurn (old new : HallData Block) (t : ℕ) (r : Rules) (before a
   pub told : after.k ≡ 0
   pub ready : Ready new t after table (stand_at (both new) (slot_of t))
   pub none : after.ages ≡ []
+  pub stuck : StandsAtWait new t
   pub marked : IsSome (mark_at new (slot_of t))
   pub marks : OthersKeepMarks old new t
 

@@ -3,8 +3,8 @@
 ghost use Rattle.std.specs.Prelude.{◌≡◌, Some};
 ghost use Rattle.turn_lock.specs.declared.pass.Pass.{Pass as PassData};
 ghost use Rattle.turn_lock.specs.Words.{lock_of, pass_number};
-ghost use Rattle.thread_step.specs.Context.{HallOf, IsContext, Saw, context_pass, context_slot};
-ghost use Rattle.thread_step.specs.Guest.{IsReady, guest_slot};
+ghost use Rattle.thread_step.specs.Context.{HallOf, IsContext, Saw, context_pass, context_slot, context_steps};
+ghost use Rattle.thread_step.specs.Guest.{IsReady, guest_slot, private_steps};
 
 use crate::guest::Guest;
 use hall_core::Hall;
@@ -26,6 +26,7 @@ impl Context {
         requires number { pass_number pass ≡ guest_slot guest }
         ensures context { (h : HallOf) → Saw pass h → IsReady h guest → IsContext (lock_of pass) result h }
         ensures slot { context_slot result ≡ guest_slot guest }
+        ensures steps { context_steps result ≡ private_steps guest }
         ensures pass { context_pass result ≡ Some pass }
     {
         Context {

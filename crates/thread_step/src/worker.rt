@@ -1,14 +1,18 @@
 //! A turn of a worker's thread: its private steps are made without the shared state, which it takes for each entry and gives
 //! back at once.
 
-ghost use Rattle.std.specs.Prelude.{◌≡◌, ◌≢◌, ◌<◌, ◌≤◌, ℕ, None};
+ghost use Rattle.std.specs.Prelude.{◌≡◌, ◌≢◌, ◌+◌, ◌-◌, ◌<◌, ◌≤◌, ℕ, None, Some};
 ghost use Rattle.address_space.specs.Slots.{slot_of};
+ghost use Rattle.turn_lock.specs.declared.pass.Pass.{Pass as PassData};
 ghost use Rattle.turn_lock.specs.Lock.{lock_id};
 ghost use Rattle.turn_lock.specs.Words.{held_lock, held_number, held_value, lock_of, pass_number};
 ghost use Rattle.machine_model.specs.Gated.{Leads, Stand, begin};
 ghost use Rattle.hall_core.specs.Hall.{both, machine};
-ghost use Rattle.thread_step.specs.Costs.{Spends};
-ghost use Rattle.thread_step.specs.Context.{Cause, GoesOn, HallOf, HoldsIn, IsContext, IsTaken, LookedIn, LookedIs, Runs, Saw, SteppedIn, SteppedIs, TookTurn, TurnedBy, TurnedIn, WorksIn, Wrote, context_slot, cost_in, wait_in};
+ghost use Rattle.guest_parts.specs.Running.{Rises};
+ghost use Rattle.guest_entries.specs.Steps.{instruction_steps};
+ghost use Rattle.thread_step.specs.Costs.{Spends, costs, slot_costs};
+ghost use Rattle.thread_step.specs.Counts.{slot_steps};
+ghost use Rattle.thread_step.specs.Context.{BudgetIs, EndsWith, GoesOn, HallOf, HoldsIn, IsContext, IsTaken, LookedIn, LookedIs, Runs, Saw, SteppedIn, SteppedIs, TookTurn, TurnedBy, TurnedIn, WorksIn, Wrote, context_pass, context_slot, context_steps, cost_in, wait_in};
 ghost use Rattle.thread_step.specs.declared.rules.Turned.TheVariants as turned;
 ghost use Rattle.thread_step.specs.Guest.{IsLeft, IsReady};
 ghost use Rattle.thread_step.specs.Turned.{AreRules, Ready};
@@ -87,6 +91,7 @@ pub(crate) fn give(lock: &Turn<Hall<Block>>, held: Held<Hall<Block>>) -> Pass<Ha
 fn look_at(guest: &mut Guest, hall: &Hall<Block>) -> Looked
     requires ready { IsReady hall.now guest.old }
     ensures slot { guest.new.slot ≡ guest.old.slot }
+    ensures told { guest.new.own.k ≡ guest.old.own.k }
     ensures looked { LookedIs result hall.now guest.old guest.new }
 {
     if has_ended(hall) {
@@ -113,6 +118,8 @@ fn step_in<L: Lifter, N: Engine>(
     ensures case { hall.new.case ≡ hall.old.case }
     ensures spends { Spends t (cost_in result) (wait_in result) hall.old.journal hall.new.journal }
     ensures stepped { SteppedIs result hall.new t guest.new }
+    ensures budget { BudgetIs result 1 (costs hall.old.journal) (costs hall.new.journal) }
+    ensures count { Rises (N.count engine.old) (N.count engine.new) ((instruction_steps hall.old.case hall.new.journal + guest.new.own.k) - (instruction_steps hall.old.case hall.old.journal + guest.old.own.k)) }
 {
     hall.facts();
     if has_ended(hall) {
@@ -148,6 +155,7 @@ fn go_ahead<N: Engine>(guest: &mut Guest, engine: &mut N)
     requires runs { (h : HallOf) × (t : ℕ) × Runs h t guest.old }
     ensures slot { guest.new.slot ≡ guest.old.slot }
     ensures runs { (h : HallOf) (t : ℕ) → Runs h t guest.old → Runs h t guest.new }
+    ensures count { Rises (N.count engine.old) (N.count engine.new) (guest.new.own.k - guest.old.own.k) }
 {
     ahead(&mut guest.own, &mut guest.table, engine);
 }
@@ -163,6 +171,7 @@ fn look<R: Wait>(
     ensures lock { lock_of result.0 ≡ lock_id lock.now }
     ensures number { pass_number result.0 ≡ pass_number pass }
     ensures slot { guest.new.slot ≡ guest.old.slot }
+    ensures told { guest.new.own.k ≡ guest.old.own.k }
     ensures looked { (h : HallOf) → HoldsIn (lock_id lock.now) pass guest.old h → LookedIn result.1 result.0 guest.old guest.new h }
 {
     let mut held = take(rt, lock, pass);
@@ -187,6 +196,8 @@ fn step<R: Wait, L: Lifter, N: Engine, G: Gate>(
     ensures number { pass_number result.0 ≡ pass_number pass }
     ensures slot { guest.new.slot ≡ guest.old.slot }
     ensures stepped { (h : HallOf) → WorksIn (lock_id lock.now) pass t guest.old h → SteppedIn result.1 result.0 t (cost_in result.1) (wait_in result.1) guest.new h }
+    ensures budget { (h n : HallOf) → WorksIn (lock_id lock.now) pass t guest.old h → Saw result.0 n → BudgetIs result.1 1 (slot_costs guest.old.slot h.journal) (slot_costs guest.old.slot n.journal) }
+    ensures count { (h n : HallOf) → WorksIn (lock_id lock.now) pass t guest.old h → Saw result.0 n → Rises (N.count engine.old) (N.count engine.new) ((slot_steps n.case guest.old.slot n.journal + guest.new.own.k) - (slot_steps h.case guest.old.slot h.journal + guest.old.own.k)) }
 {
     go_ahead(guest, engine);
     gate.pass(t, nth);
@@ -213,6 +224,8 @@ fn steps<R: Wait, L: Lifter, N: Engine, G: Gate>(
     ensures number { pass_number result.0 ≡ pass_number pass }
     ensures slot { guest.new.slot ≡ guest.old.slot }
     ensures stepped { (h : HallOf) → WorksIn (lock_id lock.now) pass t guest.old h → SteppedIn result.1 result.0 t budget (wait_in result.1) guest.new h }
+    ensures budget { (h n : HallOf) → WorksIn (lock_id lock.now) pass t guest.old h → Saw result.0 n → BudgetIs result.1 budget (slot_costs guest.old.slot h.journal) (slot_costs guest.old.slot n.journal) }
+    ensures count { (h n : HallOf) → WorksIn (lock_id lock.now) pass t guest.old h → Saw result.0 n → Rises (N.count engine.old) (N.count engine.new) ((slot_steps n.case guest.old.slot n.journal + guest.new.own.k) - (slot_steps h.case guest.old.slot h.journal + guest.old.own.k)) }
 {
     let mut pass = pass;
     for _i in 0..budget {
@@ -235,8 +248,10 @@ fn grow_older(guest: &mut Guest, hall: &mut Hall<Block>, t: u32, hold: u32) -> T
     ensures slot { guest.new.slot ≡ guest.old.slot }
     ensures case { hall.new.case ≡ hall.old.case }
     ensures spends { Spends t 0 0 hall.old.journal hall.new.journal }
+    ensures told { guest.new.own.k ≡ guest.old.own.k }
+    ensures steps { instruction_steps hall.old.case hall.new.journal ≡ instruction_steps hall.old.case hall.old.journal }
     ensures left { IsLeft result hall.new guest.new }
-    ensures cause { (h : HallOf) → Cause result h hall.new guest.new }
+    ensures ends { EndsWith result hall.new }
     ensures lives { result ≢ turned.Idle }
 {
     if has_ended(hall) {
@@ -265,6 +280,8 @@ fn finish<R: Wait>(
     ensures number { pass_number result.0 ≡ pass_number pass }
     ensures slot { guest.new.slot ≡ guest.old.slot }
     ensures left { (h : HallOf) → WorksIn (lock_id lock.now) pass t guest.old h → TurnedBy result.1 result.0 t 0 guest.new h }
+    ensures told { guest.new.own.k ≡ guest.old.own.k }
+    ensures steps { (h n : HallOf) → WorksIn (lock_id lock.now) pass t guest.old h → Saw result.0 n → slot_steps n.case guest.old.slot n.journal ≡ slot_steps h.case guest.old.slot h.journal }
     ensures lives { result.1 ≢ turned.Idle }
 {
     let mut held = take(rt, lock, pass);
@@ -291,6 +308,7 @@ fn run<R: Wait, L: Lifter, N: Engine, G: Gate>(
     ensures number { pass_number result.0 ≡ pass_number pass }
     ensures slot { guest.new.slot ≡ guest.old.slot }
     ensures left { (h : HallOf) → WorksIn (lock_id lock.now) pass t guest.old h → TurnedBy result.1 result.0 t rules.turn guest.new h }
+    ensures count { (h n : HallOf) → WorksIn (lock_id lock.now) pass t guest.old h → Saw result.0 n → Rises (N.count engine.old) (N.count engine.new) ((slot_steps n.case guest.old.slot n.journal + guest.new.own.k) - (slot_steps h.case guest.old.slot h.journal + guest.old.own.k)) }
 {
     let (pass, stepped) = steps(
         rt, lock, pass, guest, t, lifter, engine, gate, made, rules.turn,
@@ -322,6 +340,7 @@ fn turn_with<R: Wait, L: Lifter, N: Engine, G: Gate>(
     ensures number { pass_number result.0 ≡ pass_number pass }
     ensures slot { guest.new.slot ≡ guest.old.slot }
     ensures left { (h : HallOf) → HoldsIn (lock_id lock.now) pass guest.old h → TurnedIn result.1 result.0 rules.turn guest.new h }
+    ensures count { (h n : HallOf) → HoldsIn (lock_id lock.now) pass guest.old h → Saw result.0 n → Rises (N.count engine.old) (N.count engine.new) ((slot_steps n.case guest.old.slot n.journal + guest.new.own.k) - (slot_steps h.case guest.old.slot h.journal + guest.old.own.k)) }
 {
     let (pass, looked) = look(rt, lock, pass, guest);
     match looked {
@@ -335,9 +354,14 @@ fn turn_with<R: Wait, L: Lifter, N: Engine, G: Gate>(
 /// shared state, which is taken for each entry and given back at once. A gate is passed before each of them. At most
 /// `rules.turn` entries cost of the budget, and at the turn's end the waiting writes that are too old go to memory.
 ///
-/// `Ended`: the run has an ending. `Idle`: no thread lives in the slot. `Waiting`: the thread stands at a call that waits.
-/// `Memory`: memory for entries, for a block at hand, for a call of the library or for the growth of a place was wanting; the
-/// guest stands with its thread. Else `Ran`. All is said of the state at the turn's last look.
+/// `Ended`: the run has an ending. `Idle`: no thread lives in the slot, and no entry of it was added. `Waiting`: less than the
+/// budget was spent, and the thread stands at a call that waits, with no private steps and no waiting writes. `Ran`: just the
+/// budget was spent, or the thread's life ended. `Memory`: memory for entries, for a block at hand, for a call of the library or
+/// for the growth of a place was wanting; the guest stands with its thread. All is said of the state at the turn's last look;
+/// at `Waiting` and `Ran` the thread lived at the first one.
+///
+/// The engine's count rises at least by the steps of instructions of the slot's entries that were added, and by the private
+/// steps since the last of them in place of those before the turn, or stands at its type's end.
 pub fn turn<R: Wait, L: Lifter, N: Engine, G: Gate>(
     rt: &R,
     ctx: &mut Context,
@@ -349,6 +373,7 @@ pub fn turn<R: Wait, L: Lifter, N: Engine, G: Gate>(
 ) -> Turned
     requires context { (h : HallOf) × IsContext (lock_id lock.now) ctx.old h × AreRules h.case rules }
     ensures took { (h : HallOf) → IsContext (lock_id lock.now) ctx.old h → TookTurn result (lock_id lock.now) rules.turn ctx.old ctx.new h }
+    ensures count { (h n : HallOf) (p : PassData HallOf) → IsContext (lock_id lock.now) ctx.old h → context_pass ctx.new ≡ Some p → Saw p n → Rises (N.count engine.old) (N.count engine.new) ((slot_steps n.case (context_slot ctx.old) n.journal + context_steps ctx.new) - (slot_steps h.case (context_slot ctx.old) h.journal + context_steps ctx.old)) }
 {
     let Some(pass) = ctx.pass.take() else {
         unreachable!()

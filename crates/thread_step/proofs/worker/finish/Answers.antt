@@ -1,7 +1,9 @@
 use Rattle.std.proofs.Common.{◌<◌, refl, sym, subst, arith, ◌∙◌}
 use Rattle.turn_lock.specs.Words.{pass_number}
 use Rattle.thread_step.specs.Context.{GoesOn, Wrote}
+use Rattle.thread_step.proofs.Causes.{end_cause, end_costs, lived_by}
 use Rattle.thread_step.proofs.Furthering.{further_by, further_more, spends_wrote, taken_as}
+use Rattle.thread_step.proofs.Rising.{goes_steps, seen_steps, spends_steps}
 use Rattle.thread_step.proofs.Staying.{runs_on}
 use Rattle.thread_step.proofs.worker.finish.Goals as goal
 
@@ -18,14 +20,26 @@ give-requires-clause-wrote g c =
 
 pub returns-clause-left : goal.returns-clause-left
 returns-clause-left g c = λ h w.
-    let goes = subst (GoesOn (pass_number c.args.pass) h) (sym c.value.ensures.value) (c.take-held.ensures.goes h w.saw) in
+    let new = c.grow_older-turned.new.hall in
     let slot = c.grow_older-turned.ensures.slot in
     let number = w.number ∙ sym slot in
+    let goes = subst (λ s. GoesOn s h c.value.result.now) number (subst (GoesOn (pass_number c.args.pass) h) (sym c.value.ensures.value) (c.take-held.ensures.goes h w.saw)) in
+    let further = further_more _ c.args.t 0 0 0 1 h new (omega arith) (omega arith) (further_by _ c.args.t 0 0 h c.value.result.now new (w.runs.slot ∙ sym slot) goes c.grow_older-turned.ensures.case c.grow_older-turned.ensures.spends) in
     record {
-      hall = c.grow_older-turned.new.hall;
+      hall = new;
       saw = c.give.ensures.saw;
       left = c.grow_older-turned.ensures.left;
       slot = w.runs.slot ∙ sym slot;
-      further = further_more _ c.args.t 0 0 0 1 h c.grow_older-turned.new.hall (omega arith) (omega arith) (further_by _ c.args.t 0 0 h c.value.result.now c.grow_older-turned.new.hall (w.runs.slot ∙ sym slot) (subst (λ s. GoesOn s h c.value.result.now) number goes) c.grow_older-turned.ensures.case c.grow_older-turned.ensures.spends);
-      cause = c.grow_older-turned.ensures.cause h;
+      further = further;
+      cause = end_cause c.grow_older-turned.result c.args.t h new c.grow_older-turned.new.guest (lived_by _ c.args.t 0 1 c.args.pass h new c.args.guest.now (sym slot) w.saw w.runs further) (end_costs _ c.args.t 0 h c.value.result.now new (w.runs.slot ∙ sym slot) goes c.grow_older-turned.ensures.spends) c.grow_older-turned.ensures.ends;
     }
+
+pub returns-clause-steps : goal.returns-clause-steps
+returns-clause-steps g c = λ h n w saw.
+    let goes = subst (GoesOn (pass_number c.args.pass) h) (sym c.value.ensures.value) (c.take-held.ensures.goes h w.saw) in
+    let s = c.args.guest.now.slot in
+    let seen = seen_steps c.give.result s c.grow_older-turned.new.hall n c.give.ensures.saw saw in
+    let own = spends_steps s c.args.t 0 0 c.value.result.now c.grow_older-turned.new.hall w.runs.slot c.grow_older-turned.ensures.case c.grow_older-turned.ensures.spends in
+    let others = goes_steps s h c.value.result.now (subst (λ z. GoesOn z h c.value.result.now) w.number goes) in
+    let none = c.grow_older-turned.ensures.steps in
+    omega (arith, seen, own, others, none)

@@ -1,5 +1,6 @@
 use Rattle.std.proofs.Common.{refl, sym, ◌∙◌}
 use Rattle.guest_steps.specs.Own.{data_of}
+use Rattle.thread_step.proofs.Counting.{held_same, settled_counts}
 use Rattle.thread_step.proofs.Staying.{runs_ready}
 use Rattle.thread_step.proofs.Stepping.{settled_case, settled_going, settled_runs, settled_spends}
 use Rattle.thread_step.proofs.Turning.{along_held}
@@ -34,9 +35,19 @@ returns-clause-left c =
     let a = along_held c.args.hall.now c.make_place.new.hall c.args.t g.own g.table.items r.stand c.make_place.ensures.same r.ready.along in
     runs_ready c.settle.new.hall c.args.t _ (settled_runs c.args.hall.now c.make_place.new.hall c.settle.new.hall c.args.t c.args.hold g c.settle.new.ages r c.make_place.ensures.same c.requires.hold c.settle.ensures.fresh (c.settle.ensures.settled (data_of g.own) r.stand a.going a.with refl))
 
-pub returns-clause-cause : goal.returns-clause-cause
-returns-clause-cause c =
+pub returns-clause-ends : goal.returns-clause-ends
+returns-clause-ends c =
     let g = c.args.guest.now in
     let r = c.requires.runs (none_end _ (sym c.has_ended.ensures ∙ c.if-has_ended.false)) in
     let a = along_held c.args.hall.now c.make_place.new.hall c.args.t g.own g.table.items r.stand c.make_place.ensures.same r.ready.along in
-    λ h. settled_going c.args.hall.now c.make_place.new.hall c.settle.new.hall c.args.t c.args.hold g c.settle.new.ages r c.make_place.ensures.same c.requires.hold c.settle.ensures.fresh (c.settle.ensures.settled (data_of g.own) r.stand a.going a.with refl)
+    settled_going c.args.hall.now c.make_place.new.hall c.settle.new.hall c.args.t c.args.hold g c.settle.new.ages r c.make_place.ensures.same c.requires.hold c.settle.ensures.fresh (c.settle.ensures.settled (data_of g.own) r.stand a.going a.with refl)
+
+pub returns-in-Err-clause-steps : goal.returns-in-Err-clause-steps
+returns-in-Err-clause-steps c = held_same c.args.hall.now.case c.args.hall.now c.make_place.new.hall c.make_place.ensures.same
+
+pub returns-clause-steps : goal.returns-clause-steps
+returns-clause-steps c =
+    let g = c.args.guest.now in
+    let r = c.requires.runs (none_end _ (sym c.has_ended.ensures ∙ c.if-has_ended.false)) in
+    let a = along_held c.args.hall.now c.make_place.new.hall c.args.t g.own g.table.items r.stand c.make_place.ensures.same r.ready.along in
+    settled_counts c.args.hall.now.case c.args.hall.now c.make_place.new.hall c.settle.new.hall c.args.t c.args.hold (data_of g.own) c.settle.new.ages r.stand c.make_place.ensures.same (c.settle.ensures.settled (data_of g.own) r.stand a.going a.with refl)

@@ -1,7 +1,7 @@
 use Rattle.std.proofs.Common.{refl, sym, subst}
 use Rattle.turn_lock.specs.Words.{pass_number}
 use Rattle.thread_step.specs.Context.{GoesOn}
-use Rattle.thread_step.proofs.Furthering.{none_added, taken_as, wrote_none}
+use Rattle.thread_step.proofs.Furthering.{taken_as, wrote_none}
 use Rattle.thread_step.proofs.Staying.{ready_after}
 use Rattle.thread_step.proofs.worker.look.Goals as goal
 
@@ -20,8 +20,7 @@ returns-clause-looked g c = λ h w.
     record {
       hall = c.value.result.now;
       saw = c.give.ensures.saw;
-      case = goes.case;
-      none = none_added c.args.guest.now.slot h c.value.result.now (subst (λ s. GoesOn s h c.value.result.now) w.number goes);
+      goes = subst (λ s. GoesOn s h c.value.result.now) w.number goes;
       ready = ready_after (pass_number c.args.pass) h c.value.result.now c.args.guest.now (sym w.number) goes w.ready;
       looked = c.look_at-looked.ensures.looked;
     }

@@ -1,7 +1,9 @@
 use Rattle.std.proofs.Common.{◌<◌, refl, sym, subst, ◌∙◌}
 use Rattle.turn_lock.specs.Words.{pass_number}
 use Rattle.thread_step.specs.Context.{GoesOn, Wrote, cost_in, wait_in}
+use Rattle.thread_step.proofs.Causes.{step_budget}
 use Rattle.thread_step.proofs.Furthering.{further_by, spends_wrote, taken_as}
+use Rattle.thread_step.proofs.Rising.{step_rises}
 use Rattle.thread_step.proofs.Staying.{runs_on}
 use Rattle.thread_step.proofs.worker.step.Goals as goal
 
@@ -28,3 +30,13 @@ returns-clause-stepped g c = λ h w.
       stepped = c.step_in-stepped.ensures.stepped;
       further = further_by _ c.args.t (cost_in c.step_in-stepped.result) (wait_in c.step_in-stepped.result) h c.value.result.now c.step_in-stepped.new.hall (w.runs.slot ∙ sym slot) (subst (λ s. GoesOn s h c.value.result.now) number goes) c.step_in-stepped.ensures.case c.step_in-stepped.ensures.spends;
     }
+
+pub returns-clause-count : goal.returns-clause-count
+returns-clause-count g c = λ h n w saw.
+    let goes = subst (GoesOn (pass_number c.args.pass) h) (sym c.value.ensures.value) (c.take-held.ensures.goes h w.saw) in
+    step_rises c.give.result c.args.guest.now.slot c.args.t (cost_in c.step_in-stepped.result) (wait_in c.step_in-stepped.result) _ _ _ c.args.guest.now.own.k c.go_ahead.new.guest.own.k c.step_in-stepped.new.guest.own.k h c.value.result.now c.step_in-stepped.new.hall n w.runs.slot (subst (λ s. GoesOn s h c.value.result.now) w.number goes) c.step_in-stepped.ensures.case c.step_in-stepped.ensures.spends c.give.ensures.saw saw c.go_ahead.ensures.count c.step_in-stepped.ensures.count
+
+pub returns-clause-budget : goal.returns-clause-budget
+returns-clause-budget g c = λ h n w saw.
+    let goes = subst (GoesOn (pass_number c.args.pass) h) (sym c.value.ensures.value) (c.take-held.ensures.goes h w.saw) in
+    step_budget c.step_in-stepped.result c.give.result c.args.guest.now.slot c.args.t (cost_in c.step_in-stepped.result) (wait_in c.step_in-stepped.result) h c.value.result.now c.step_in-stepped.new.hall n w.runs.slot (subst (λ s. GoesOn s h c.value.result.now) w.number goes) c.step_in-stepped.ensures.spends c.give.ensures.saw saw c.step_in-stepped.ensures.budget

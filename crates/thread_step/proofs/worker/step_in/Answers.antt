@@ -1,6 +1,7 @@
-use Rattle.std.proofs.Common.{Ok, refl, sym, subst, ◌∙◌}
+use Rattle.std.proofs.Common.{Ok, refl, sym, subst, arith, ◌∙◌}
 use Rattle.thread_step.specs.Turned.{EntryIs, Stayed, Went}
-use Rattle.thread_step.proofs.Stepping.{breaks, goes, stayed_spends, steps_on, waits, went_spends}
+use Rattle.thread_step.proofs.Budget.{nothing_costs}
+use Rattle.thread_step.proofs.Stepping.{breaks, goes, stayed_empty, stayed_spends, steps_on, waits, went_costs, went_spends}
 use Rattle.thread_step.proofs.Whole.{none_end}
 use Rattle.thread_step.proofs.worker.step_in.Goals as goal
 
@@ -19,7 +20,7 @@ pub returns-in-Ok-true-clause-stepped : goal.returns-in-Ok-true-clause-stepped
 returns-in-Ok-true-clause-stepped g c =
     let r = c.requires.runs (none_end _ (sym c.has_ended.ensures ∙ c.if-has_ended.false)) in
     let q : Stayed c.args.hall.now c.entry-made.new.hall c.args.t c.args.guest.now.own c.entry-made.new.own c.entry-made.new.table.items r.stand = subst (λ b. EntryIs (Ok b) c.args.hall.now c.entry-made.new.hall c.args.t c.args.guest.now.own c.entry-made.new.own c.entry-made.new.table.items r.stand) c.in-Ok-true.field-0-test (c.in-Ok-true.ensures.entry r.stand r.ready) in
-    (waits c.args.hall.now c.entry-made.new.hall c.args.t c.args.guest.now _ r refl refl q, q.one.told)
+    (waits c.args.hall.now c.entry-made.new.hall c.args.t c.args.guest.now _ r refl refl q, q.one.told, q.stuck, stayed_empty c.args.hall.now c.entry-made.new.hall c.args.t c.args.guest.now.slot c.args.guest.now.own c.entry-made.new.own c.entry-made.new.table.items r.stand r.slot q)
 
 pub returns-then-has_ended-2-clause-spends : goal.returns-then-has_ended-2-clause-spends
 returns-then-has_ended-2-clause-spends g c =
@@ -52,3 +53,16 @@ returns-else-is_live-clause-stepped g c =
     let going = none_end _ (sym c.has_ended-in-Ok-false.ensures ∙ c.if-has_ended-2.false) in
     let dead = sym c.is_live.ensures ∙ c.if-is_live.false in
     (going, dead, goes c.args.hall.now c.entry-made.new.hall c.args.t c.args.guest.now _ r refl refl q c.facts.ensures.gated c.facts-2.ensures.gated going dead)
+
+pub returns-in-Ok-true-clause-budget : goal.returns-in-Ok-true-clause-budget
+returns-in-Ok-true-clause-budget g c =
+    let r = c.requires.runs (none_end _ (sym c.has_ended.ensures ∙ c.if-has_ended.false)) in
+    let q : Stayed c.args.hall.now c.entry-made.new.hall c.args.t c.args.guest.now.own c.entry-made.new.own c.entry-made.new.table.items r.stand = subst (λ b. EntryIs (Ok b) c.args.hall.now c.entry-made.new.hall c.args.t c.args.guest.now.own c.entry-made.new.own c.entry-made.new.table.items r.stand) c.in-Ok-true.field-0-test (c.in-Ok-true.ensures.entry r.stand r.ready) in
+    let same = nothing_costs c.args.t 1 c.args.hall.now.journal c.entry-made.new.hall.journal (stayed_spends c.args.hall.now c.entry-made.new.hall c.args.t c.args.guest.now.own c.entry-made.new.own c.entry-made.new.table.items r.stand q) in
+    omega (arith, same)
+
+pub returns-then-is_live-clause-budget : goal.returns-then-is_live-clause-budget
+returns-then-is_live-clause-budget g c =
+    let r = c.requires.runs (none_end _ (sym c.has_ended.ensures ∙ c.if-has_ended.false)) in
+    let q : Went c.args.hall.now c.entry-made.new.hall c.args.t c.args.guest.now.own c.entry-made.new.own c.entry-made.new.table.items r.stand = subst (λ b. EntryIs (Ok b) c.args.hall.now c.entry-made.new.hall c.args.t c.args.guest.now.own c.entry-made.new.own c.entry-made.new.table.items r.stand) c.in-Ok-false.field-0-test (c.in-Ok-false.ensures.entry r.stand r.ready) in
+    went_costs c.args.hall.now c.entry-made.new.hall c.args.t c.args.guest.now.own c.entry-made.new.own c.entry-made.new.table.items r.stand q (none_end _ (sym c.has_ended-in-Ok-false.ensures ∙ c.if-has_ended-2.false))
