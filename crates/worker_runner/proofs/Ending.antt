@@ -1,5 +1,5 @@
 -- What a run comes to, with all that it wrote.
-use Rattle.std.proofs.Common.{◌≡◌, ℕ, ◌≤◌, Bool, true, false, ◌||◌, List, [], ◌∷◌, ◌++◌, take, length, Option, Some, None, refl, sym, subst, ap, ◌∙◌, arith, append-nil, length-append}
+use Rattle.std.proofs.Common.{◌≡◌, ℕ, ◌+◌, ◌≤◌, ◌⊎◌, inl, Bool, true, false, ◌||◌, List, [], ◌∷◌, ◌++◌, take, length, Option, Some, None, refl, sym, subst, ap, ◌∙◌, arith, append-nil, length-append}
 use Rattle.std.specs.Prelude.{IsSome}
 use Rattle.std.specs.Io.KnownBytes.{Appends}
 use Rattle.std.proofs.lemmas.List.{take-append-le}
@@ -11,6 +11,8 @@ use Rattle.machine_model.specs.Gated.{Both, Leads, begin}
 use Rattle.machine_model.specs.State.{start}
 use Rattle.machine_model.specs.declared.ending.RunEnd.{RunEnd}
 use Rattle.machine_model.proofs.Own.{made_of}
+use Rattle.guest_parts.specs.Running.{Rises}
+use Rattle.guest_entries.specs.Steps.{instruction_steps, steps_from}
 use Rattle.hall_core.specs.Hall.{both, machine}
 use Rattle.ir_runner.specs.Outputs.{Gains, GainsBy, HoldsPart, written}
 use Rattle.ir_runner.proofs.Sinks.{gains_nothing, gains_on, holds_on}
@@ -73,3 +75,8 @@ either true s a b e p q = ap (λ x. x || b) (p refl)
 either false true true b e p q = refl
 either false true false b e p q = q refl
 either false false a b e p q = absurd (let no : false ≡ true = e in cc)
+
+-- no step was made
+pub none_ran : (a : ℕ) (h : HallOf) → h.journal ≡ [] → Rises a a (instruction_steps h.case h.journal)
+unfolding steps_from
+none_ran a h none = let z : instruction_steps h.case h.journal ≡ 0 = ap (instruction_steps h.case) none in inl (omega (arith, z))

@@ -7,6 +7,7 @@ use Rattle.thread_step.specs.declared.guest.Guest.{Guest}
 use Rattle.thread_step.specs.Context.{HallOf, IsContext}
 use Rattle.thread_step.specs.Guest.{guest_slot}
 use Rattle.worker_runner.specs.declared.round.Worker.{Worker}
+use Rattle.worker_runner.specs.Counts.{AreFresh, IsFresh}
 use Rattle.worker_runner.specs.Rounds.{AreReady, IsReadyAt}
 use Rattle.worker_runner.specs.Workers.{AreFirstGuests, AreFirstPasses, IsFirstGuest, IsFirstPass, IsWorkerOf}
 use Rattle.worker_runner.proofs.Coupling.{back_front, back_last, each_head, each_none, each_snoc, each_tail, front_from, last_from}
@@ -32,6 +33,7 @@ module _ {N : Type 0} (key : TableId) (h : HallOf) where
     pub guests_are : AreFirstGuests h guests
     pub passes_are : AreFirstPasses key h (length workers) passes
     pub workers_are : (k : ℕ) (d : Worker N) → k < length workers → IsReadyAt key h.case k (slice_index_or workers k d).ctx
+    pub fresh : AreFresh h workers
 
   pub mid_none : (guests : List Guest) (passes : List (Pass HallOf)) (workers : List (Worker N)) → workers ≡ [] → length guests ≡ 64 → length passes ≡ 64 → AreFirstGuests h guests → AreFirstPasses key h 0 passes → Mid guests passes workers
   mid_none guests passes workers none few many gs ps = record {
@@ -40,6 +42,7 @@ module _ {N : Type 0} (key : TableId) (h : HallOf) where
     guests_are = gs;
     passes_are = subst (λ n. AreFirstPasses key h n passes) (let z = ap length none in omega (arith, z)) ps;
     workers_are = subst (λ (ws : List (Worker N)). (k : ℕ) (d : Worker N) → k < length ws → IsReadyAt key h.case k (slice_index_or ws k d).ctx) (sym none) (each_none (λ k (w : Worker N). IsReadyAt key h.case k w.ctx));
+    fresh = subst (AreFresh h) (sym none) (each_none (λ k (w : Worker N). IsFresh h w.ctx));
   }
 
   module _ (guests left : List Guest) (passes rest : List (Pass HallOf)) (workers more : List (Worker N)) (guest : Guest) (pass : Pass HallOf) (m : Mid guests passes workers) (guests_is : guests ≡ left ++ guest ∷ []) (passes_is : passes ≡ pass ∷ rest) where
@@ -80,6 +83,7 @@ module _ {N : Type 0} (key : TableId) (h : HallOf) where
           guests_are = back_front (λ j g. IsFirstGuest h j g) left guest (subst (AreFirstGuests h) guests_is m.guests_are);
           passes_are = each_tail (λ j p. IsFirstPass key h j p) (length workers) (length more) pass rest (omega (arith, len2, n2)) (subst (AreFirstPasses key h (length workers)) passes_is m.passes_are);
           workers_are = subst (λ (ws : List (Worker N)). (k : ℕ) (d : Worker N) → k < length ws → IsReadyAt key h.case k (slice_index_or ws k d).ctx) (sym more_is) (each_snoc (λ k (v : Worker N). IsReadyAt key h.case k v.ctx) workers w m.workers_are (ready_there w is));
+          fresh = subst (AreFresh h) (sym more_is) (each_snoc (λ k (v : Worker N). IsFresh h v.ctx) workers w m.fresh (record { pass = pass; there = is.pass_is; saw = its_pass.saw; none = is.steps ∙ its_guest.told }));
         }
 
   pub mid_all : (guests : List Guest) (passes : List (Pass HallOf)) (workers : List (Worker N)) → length passes ≡ 0 → Mid guests passes workers → AreReady key h.case workers

@@ -1,5 +1,5 @@
 -- Rounds of workers: the contexts after a round, and what was written so far.
-use Rattle.std.proofs.Common.{◌≡◌, ℕ, ◌<◌, ◌≤◌, ◌⊎◌, inl, inr, ◌++◌, false, List, [], drop, length, slice_index_or, take, Option, Some, refl, sym, subst, ap, ◌∙◌, arith, append-nil}
+use Rattle.std.proofs.Common.{◌≡◌, ℕ, ◌+◌, ◌-◌, ◌<◌, ◌≤◌, ◌⊎◌, inl, inr, ◌++◌, false, List, [], drop, length, slice_index_or, take, Option, Some, refl, sym, subst, ap, ◌∙◌, arith, append-nil}
 use Rattle.std.specs.Prelude.{All}
 use Rattle.std.proofs.lemmas.List.{drop_all, take_all}
 use Rattle.atomic_table.specs.Seated.{TableId}
@@ -21,6 +21,12 @@ use Rattle.worker_runner.specs.declared.watch.Over.TheVariants as over
 use Rattle.worker_runner.specs.declared.watch.Place.{Place}
 use Rattle.worker_runner.specs.Rounds.{AreHeld, AreReady, EndIs, HadMemory, IsHeldAt, IsReadyAt, Starts}
 use Rattle.worker_runner.specs.Watched.{Grew, IsPlace, OverIs, library_of}
+use Rattle.guest_parts.specs.Running.{Rises}
+use Rattle.guest_steps.proofs.Striding.{rises_then}
+use Rattle.thread_step.proofs.Counting.{rises_less}
+use Rattle.thread_step.specs.Context.{context_steps}
+use Rattle.thread_step.specs.Counts.{slot_steps}
+use Rattle.worker_runner.specs.Counts.{AreCounted, CountsIts, HasCounted}
 use Rattle.worker_runner.specs.Workers.{MayGo, TookIts}
 
 -- ---- contexts
@@ -54,6 +60,18 @@ held_ready key c k ctx x =
     let q = x.context in
     record { pass = q.pass; there = q.there; lock = q.holds.lock; number = q.holds.number ∙ x.its; hall = x.hall; saw = q.holds.saw; case = x.case }
 
+-- a worker took its turn, or nothing was done with it
+abbrev pub DidOne : {N : Type 0} → TableId → ℕ → (N → ℕ) → Worker N → Worker N → Type 0
+DidOne key most count old new = (TookIts key most old.ctx new.ctx new.turned × CountsIts key (count old.engine) (count new.engine) old.ctx new.ctx) ⊎ (new ≡ old)
+
+counted_on : (key : TableId) (c : CaseData) (k a b : ℕ) (old new : Context) → IsReadyAt key c k old → HasCounted a k old → CountsIts key a b old new → HasCounted b k new
+counted_on key c k a b old new x had its = λ n p there saw.
+    let before = had x.hall x.context.pass x.context.there x.context.holds.saw in
+    let after = subst (λ s. Rises a b ((slot_steps n.case s n.journal + context_steps new) - (slot_steps x.hall.case s x.hall.journal + context_steps old))) x.its (its x.hall n p x.context there saw) in
+    let last = slot_steps n.case k n.journal + context_steps new in
+    let less : last ≤ last - 0 = omega arith in
+    rises_less 0 b (last - 0) last less (rises_then 0 a b 0 (slot_steps x.hall.case k x.hall.journal + context_steps old) last (rises_less 0 a (slot_steps x.hall.case k x.hall.journal + context_steps old) (slot_steps x.hall.case k x.hall.journal + context_steps old - 0) (omega arith) before) after)
+
 module _ {N : Type 0} (key : TableId) (c : CaseData) where
   pub all_go : (r : Rules) (ws : List (Worker N)) → AreReady key c ws → AreRules c r → All (λ w. MayGo key r w.ctx) ws
   all_go r ws ready rules = λ k d less. let x = ready.1 k d less in (x.hall, x.context, subst (λ z. AreRules z r) (sym x.case) rules)
@@ -61,14 +79,14 @@ module _ {N : Type 0} (key : TableId) (c : CaseData) where
   pub all_held : (ws : List (Worker N)) → AreReady key c ws → AreHeld key c ws
   all_held ws ready = (ready.0, λ k d less. held_ready key c k (slice_index_or ws k d).ctx (ready.1 k d less))
 
-  module _ (most : ℕ) (ws vs : List (Worker N)) (ready : AreReady key c ws) (count : length vs ≡ length ws) (took : (k : ℕ) (d : Worker N) → k < length ws → TookIts key most (slice_index_or ws k d).ctx (slice_index_or vs k d).ctx (slice_index_or vs k d).turned ⊎ (slice_index_or vs k d ≡ slice_index_or ws k d)) where
+  module _ (count_of : N → ℕ) (most : ℕ) (ws vs : List (Worker N)) (ready : AreReady key c ws) (count : length vs ≡ length ws) (took : (k : ℕ) (d : Worker N) → k < length ws → DidOne key most count_of (slice_index_or ws k d) (slice_index_or vs k d)) where
     pub all_ready_on : ((k : ℕ) (d : Worker N) → k < length vs → HadMemory (slice_index_or vs k d).turned) → AreReady key c vs
     all_ready_on had = (
       count ∙ ready.0,
       λ k d less.
           let before = subst (λ n. k < n) count less in
           elim (took k d before) [
-            | inl did ↦ ready_on key c k most (slice_index_or ws k d).ctx (slice_index_or vs k d).ctx (slice_index_or vs k d).turned (ready.1 k d before) did (had k d less)
+            | inl did ↦ ready_on key c k most (slice_index_or ws k d).ctx (slice_index_or vs k d).ctx (slice_index_or vs k d).turned (ready.1 k d before) did.0 (had k d less)
             | inr same ↦ subst (λ (w : Worker N). IsReadyAt key c k w.ctx) (sym same) (ready.1 k d before)
           ],
     )
@@ -79,10 +97,18 @@ module _ {N : Type 0} (key : TableId) (c : CaseData) where
       λ k d less.
           let before = subst (λ n. k < n) count less in
           elim (took k d before) [
-            | inl did ↦ held_on key c k most (slice_index_or ws k d).ctx (slice_index_or vs k d).ctx (slice_index_or vs k d).turned (ready.1 k d before) did
+            | inl did ↦ held_on key c k most (slice_index_or ws k d).ctx (slice_index_or vs k d).ctx (slice_index_or vs k d).turned (ready.1 k d before) did.0
             | inr same ↦ held_ready key c k (slice_index_or vs k d).ctx (subst (λ (w : Worker N). IsReadyAt key c k w.ctx) (sym same) (ready.1 k d before))
           ],
     )
+
+    pub all_counted_on : AreCounted count_of ws → AreCounted count_of vs
+    all_counted_on had = λ k d less.
+        let before = subst (λ n. k < n) count less in
+        elim (took k d before) [
+          | inl did ↦ counted_on key c k (count_of (slice_index_or ws k d).engine) (count_of (slice_index_or vs k d).engine) (slice_index_or ws k d).ctx (slice_index_or vs k d).ctx (ready.1 k d before) (had k d before) did.1
+          | inr same ↦ subst (λ (w : Worker N). HasCounted (count_of w.engine) k w.ctx) (sym same) (had k d before)
+        ]
 
   -- a run under way
   pub record Mid (workers : List (Worker N)) (p : Pass HallOf) (at : Place) (one two : Written) : Type 0 where

@@ -1,23 +1,25 @@
 -- How a run by workers ends.
-use Rattle.std.specs.Prelude.{◌≡◌, ℕ, ◌<◌, true, ◌||◌, List, ◌++◌, length, slice_index_or, Some, IsSome}
+use Rattle.std.specs.Prelude.{◌≡◌, ℕ, ◌<◌, true, ◌||◌, List, ◌++◌, length, slice_index_or, IsSome}
 use Rattle.atomic_table.specs.Seated.{TableId}
 use Rattle.journal_pack.specs.declared.entry.Entry.{Entry}
 use Rattle.turn_lock.specs.declared.pass.Pass.{Pass}
-use Rattle.turn_lock.specs.Words.{lock_of, pass_case, pass_number}
+use Rattle.turn_lock.specs.Words.{lock_of, pass_number}
 use Rattle.machine_model.specs.CaseData.{CaseData}
 use Rattle.machine_model.specs.Gated.{Leads, begin}
 use Rattle.hall_core.specs.Hall.{both, machine}
 use Rattle.ir_runner.specs.declared.run.Ran.{Ran}
 use Rattle.ir_runner.specs.declared.run.Ran.TheVariants.{Ended, Stopped, Memory}
 use Rattle.ir_runner.specs.Outputs.{Gains, GainsBy, HoldsPart, Written}
-use Rattle.thread_step.specs.Context.{HallOf, case_in}
+use Rattle.thread_step.specs.Context.{HallOf, Saw}
 use Rattle.worker_runner.specs.Watched.{library_of}
 
--- a pass of this lock, number and case
+-- a pass of this lock and number, which saw a state of this case
 pub record IsBack (key : TableId) (c : CaseData) (n : ℕ) (p : Pass HallOf) : Type 0 where
   pub lock : lock_of p ≡ key
   pub number : pass_number p ≡ n
-  pub case : pass_case case_in p ≡ Some c
+  pub hall : HallOf
+  pub saw : Saw p hall
+  pub case : hall.case ≡ c
 
 -- all passes are back, each in its place
 abbrev pub AreBack : TableId → CaseData → List (Pass HallOf) → Type 0

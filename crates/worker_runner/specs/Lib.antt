@@ -3,3 +3,4 @@ pub mod Workers
 pub mod Watched
 pub mod Rounds
 pub mod Ending
+pub mod Counts

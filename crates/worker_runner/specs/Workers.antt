@@ -7,7 +7,7 @@ use Rattle.thread_step.specs.declared.context.Context.{Context}
 use Rattle.thread_step.specs.declared.guest.Guest.{Guest}
 use Rattle.thread_step.specs.declared.rules.Rules.{Rules}
 use Rattle.thread_step.specs.declared.rules.Turned.{Turned}
-use Rattle.thread_step.specs.Context.{HallOf, IsContext, Saw, TookTurn, context_pass, context_slot}
+use Rattle.thread_step.specs.Context.{HallOf, IsContext, Saw, TookTurn, context_pass, context_slot, context_steps}
 use Rattle.thread_step.specs.Guest.{IsReady, guest_slot, private_steps}
 use Rattle.thread_step.specs.Turned.{AreRules}
 use Rattle.worker_runner.specs.declared.round.Worker.{Worker}
@@ -47,6 +47,7 @@ module _ {N : Type 0} where
   pub record IsWorkerOf (guest : Guest) (pass : Pass HallOf) (engine : N) (w : Worker N) : Type 0 where
     pub context : (h : HallOf) → Saw pass h → IsReady h guest → IsContext (lock_of pass) w.ctx h
     pub slot : context_slot w.ctx ≡ guest_slot guest
+    pub steps : context_steps w.ctx ≡ private_steps guest
     pub pass_is : context_pass w.ctx ≡ Some pass
     pub engine_is : w.engine ≡ engine
 

@@ -1,11 +1,16 @@
 //! The end of a run: the passes are gathered, and the shared state is taken out of its lock.
 
-ghost use Rattle.std.specs.Prelude.{◌≡◌, ◌≤◌, [], length, slice_index_or, vec_capacity};
+ghost use Rattle.std.specs.Prelude.{◌≡◌, ◌≤◌, List, [], length, slice_index_or, vec_capacity};
 ghost use Rattle.atomic_table.specs.Seated.{TableId};
 ghost use Rattle.turn_lock.specs.Lock.{lock_id, pass_count};
 ghost use Rattle.turn_lock.specs.Words.{lock_of, pass_number};
 ghost use Rattle.machine_model.specs.CaseData.{CaseData};
 ghost use Rattle.thread_step.specs.Context.{HallOf, Saw};
+ghost use Rattle.guest_parts.specs.Running.{Rises};
+ghost use Rattle.guest_entries.specs.Steps.{instruction_steps};
+ghost use Rattle.journal_pack.specs.declared.entry.Entry.{Entry};
+ghost use Rattle.thread_step.specs.Counts.{slots_steps};
+ghost use Rattle.worker_runner.specs.Counts.{AreCounted, AreKept};
 ghost use Rattle.worker_runner.specs.Ending.{AreBack, Goes, IsBack};
 ghost use Rattle.worker_runner.specs.Rounds.{AreHeld};
 
@@ -24,6 +29,7 @@ fn gather<N: Engine + Drop>(
 ) -> Vec<Pass<Hall<Block>>>
     requires room { (room.items ≡ []) × (65 ≤ vec_capacity room) }
     requires held { (key : TableId) × (c : CaseData) × AreHeld key c workers.items }
+    ensures merged { (key : TableId) (c : CaseData) (j : List Entry) → AreHeld key c workers.items → AreCounted N.count workers.items → AreKept c j result.items → Rises (N.count engine.old) (N.count engine.new) (slots_steps c 64 j) }
     ensures last { (d : _) → slice_index_or result.items 64 d ≡ last }
     ensures back { (key : TableId) (c : CaseData) → AreHeld key c workers.items → IsBack key c 64 last → AreBack key c result.items }
 {
@@ -56,6 +62,7 @@ pub(crate) fn take_back<N: Engine + Drop>(
     requires last { (lock_of last ≡ lock_id lock) × (pass_number last ≡ 64) }
     requires held { (h : HallOf) × Saw last h × AreHeld (lock_id lock) h.case workers.items }
     ensures goes { (h : HallOf) → Saw last h → AreHeld (lock_id lock) h.case workers.items → Goes h result }
+    ensures count { AreCounted N.count workers.items → Rises (N.count engine.old) (N.count engine.new) (instruction_steps result.case result.journal) }
 {
     let passes = gather(workers, last, room, engine);
     let hall = lock.close(passes);

@@ -5,6 +5,7 @@ ghost use Rattle.atomic_table.specs.Seated.{TableId};
 ghost use Rattle.turn_lock.specs.Words.{pass_number};
 ghost use Rattle.thread_step.specs.Context.{HallOf};
 ghost use Rattle.thread_step.specs.Guest.{guest_slot};
+ghost use Rattle.worker_runner.specs.Counts.{AreFresh};
 ghost use Rattle.worker_runner.specs.Workers.{AreFirstGuests, AreFirstPasses, IsWorkerOf};
 ghost use Rattle.worker_runner.specs.Rounds.{AreReady};
 
@@ -51,6 +52,7 @@ pub(crate) fn make_workers<N: Engine + Drop>(
     requires room { (room.items ≡ []) × (64 ≤ vec_capacity room) }
     requires counts { (length guests.items ≡ 64) × (length passes.items ≡ 64) }
     requires first { (key : TableId) × (h : HallOf) × AreFirstGuests h guests.items × AreFirstPasses key h 0 passes.items }
+    ensures fresh { (key : TableId) (h : HallOf) → AreFirstGuests h guests.items → AreFirstPasses key h 0 passes.items → AreFresh h result.items }
     ensures ready { (key : TableId) (h : HallOf) → AreFirstGuests h guests.items → AreFirstPasses key h 0 passes.items → AreReady key h.case result.items }
 {
     let mut guests = guests;

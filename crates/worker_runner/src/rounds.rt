@@ -5,6 +5,7 @@ ghost use Rattle.turn_lock.specs.Lock.{lock_id};
 ghost use Rattle.turn_lock.specs.Words.{lock_of, pass_number};
 ghost use Rattle.machine_model.specs.CaseData.{CaseData};
 ghost use Rattle.ir_runner.specs.Outputs.{written};
+ghost use Rattle.worker_runner.specs.Counts.{AreCounted};
 ghost use Rattle.worker_runner.specs.declared.watch.Over.TheVariants as over;
 ghost use Rattle.worker_runner.specs.Rounds.{AreHeld, CameTo, HadMemory, Starts};
 
@@ -63,10 +64,12 @@ pub(crate) fn rounds<
 ) -> (Pass<Hall<Block>>, Over)
     requires lock { lock_of pass ≡ lock_id lock.now }
     requires number { pass_number pass ≡ 64 }
+    requires counted { AreCounted N.count workers.old.items }
     requires start { (c : CaseData) × Starts (lock_id lock.now) c rules pass place.old workers.old.items }
     ensures lock { lock_of result.0 ≡ lock_id lock.now }
     ensures number { pass_number result.0 ≡ 64 }
     ensures over { result.1 ≢ over.On }
+    ensures counted { AreCounted N.count workers.new.items }
     ensures held { (c : CaseData) → Starts (lock_id lock.now) c rules pass place.old workers.old.items → AreHeld (lock_id lock.now) c workers.new.items }
     ensures came { (c : CaseData) → Starts (lock_id lock.now) c rules pass place.old workers.old.items → CameTo result.1 result.0 c place.new (written O.faults O.held out.old out.new) (written E.faults E.held err.old err.new) }
 {

@@ -7,6 +7,8 @@ ghost use Rattle.basic_blocks.specs.Reach.{is_among};
 ghost use Rattle.lift_table.specs.Block.{lifted_block};
 ghost use Rattle.turn_lock.specs.Lock.{lock_id, pass_count};
 ghost use Rattle.hall_core.specs.Hall.{grown};
+ghost use Rattle.guest_parts.specs.Running.{Rises};
+ghost use Rattle.guest_entries.specs.Steps.{instruction_steps};
 ghost use Rattle.ir_runner.specs.Outputs.{GainsBy, written};
 ghost use Rattle.thread_step.specs.Context.{HallOf};
 ghost use Rattle.thread_step.specs.Turned.{AreRules};
@@ -101,6 +103,7 @@ fn run_locked<
     requires begins { (h : HallOf) × Begins (lock_id lock) h rules guests.items dealt.items }
     ensures case { (h : HallOf) → Begins (lock_id lock) h rules guests.items dealt.items → result.0.case ≡ h.case }
     ensures outputs { WroteAll result.1 result.0 (written O.faults O.held out.old out.new) (written E.faults E.held err.old err.new) }
+    ensures count { Rises (N.count engine.old) (N.count engine.new) (instruction_steps result.0.case result.0.journal) }
 {
     let mut dealt = dealt;
     let Some(driver) = dealt.pop() else {
@@ -146,6 +149,7 @@ fn run_with<
     requires guests { (length guests.items ≡ 64) × AreFirstGuests hall guests.items }
     ensures case { result.0.case ≡ hall.case }
     ensures outputs { WroteAll result.1 result.0 (written O.faults O.held out.old out.new) (written E.faults E.held err.old err.new) }
+    ensures count { Rises (N.count engine.old) (N.count engine.new) (instruction_steps result.0.case result.0.journal) }
 {
     hall.facts();
     let Ok(workers) = Vec::with_capacity(alloc, 64) else {
@@ -185,6 +189,7 @@ fn run_all<
     requires rules { AreRules hall.case rules }
     ensures case { result.0.case ≡ hall.case }
     ensures outputs { WroteAll result.1 result.0 (written O.faults O.held out.old out.new) (written E.faults E.held err.old err.new) }
+    ensures count { Rises (N.count engine.old) (N.count engine.new) (instruction_steps result.0.case result.0.journal) }
 {
     match make_guests(alloc, &hall) {
         Ok(guests) => run_with(
@@ -203,7 +208,8 @@ fn run_all<
 /// Which legal interleaving comes is not promised, nor that a thread gets on, nor that more threads are faster. The case stays.
 /// No block that was grown changes, and each grown place has the lifted block. At `Ended` the machine has an ending, and each
 /// sink grew by exactly its output. At `Stopped` a sink that failed grew by a first part of its output, with one fault counted
-/// at least, and the other one by the whole of its output. At `Memory` each grew by a first part, and counted no fault.
+/// at least, and the other one by the whole of its output. At `Memory` each grew by a first part, and counted no fault. The
+/// engine's count, with those of the workers' engines merged, rises by the journal's steps of instructions at least.
 pub fn run_workers<
     R: Threads + Wait + Sync,
     L: Lifter + Sync,
@@ -226,6 +232,7 @@ pub fn run_workers<
     requires rules { AreRules hall.case rules }
     ensures case { result.0.case ≡ hall.case }
     ensures outputs { WroteAll result.1 result.0 (written O.faults O.held out.old out.new) (written E.faults E.held err.old err.new) }
+    ensures count { Rises (N.count engine.old) (N.count engine.new) (instruction_steps result.0.case result.0.journal) }
     ensures kept { (a : ℕ) (b : BlockData) → finite.get hall.blocks a ≡ Some b → finite.get result.0.blocks a ≡ Some b }
     ensures lifted { (a : ℕ) (b : BlockData) → finite.get result.0.blocks a ≡ Some b → b ≡ lifted_block result.0.case.image a }
     ensures grown { (a : ℕ) → is_some (finite.get result.0.blocks a) ≡ is_among (grown result.0) a }

@@ -23,4 +23,4 @@ loop-pass-preserved g c =
     (λ key h gs ps. mid_next key h _ _ _ _ _ _ _ _ (c.loop-pass.invariant.0 key h gs ps) c.in-Some-pop.ensures.items c.in-Some.ensures.steps.0 c.worker_of.result c.worker_of.ensures c.in-Ok.ensures.items, record { left = m.left; made = m.made }, (let a = c.push-pushed.ensures.capacity in let b = c.loop-pass.invariant.2 in omega (arith, a, b)))
 
 pub returns : goal.returns
-returns g c = record { ready = λ key h gs ps. mid_all key h c.loop-pass.guests.items c.loop-pass.pass-iterator.rest.items c.loop-pass.workers.items (let ok = c.loop-pass.pass-iterator.rest.ok in let n = c.in-None.ensures.steps.0 in sym ok.0 ∙ n) (c.loop-pass.invariant.0 key h gs ps) }
+returns g c = record { fresh = λ key h gs ps. (c.loop-pass.invariant.0 key h gs ps).fresh; ready = λ key h gs ps. mid_all key h c.loop-pass.guests.items c.loop-pass.pass-iterator.rest.items c.loop-pass.workers.items (let ok = c.loop-pass.pass-iterator.rest.ok in let n = c.in-None.ensures.steps.0 in sym ok.0 ∙ n) (c.loop-pass.invariant.0 key h gs ps) }

@@ -1,5 +1,7 @@
 use Rattle.std.proofs.Common.{rules, slice_index_or, sym, subst}
 use Rattle.turn_lock.specs.Lock.{lock_id}
+use Rattle.worker_runner.specs.declared.round.Worker.{Worker}
+use Rattle.worker_runner.specs.Counts.{CountsIts}
 use Rattle.worker_runner.specs.Workers.{MayGo, TookIts}
 use Rattle.worker_runner.proofs.round.turn_of_each.Goals as goal
 
@@ -9,5 +11,6 @@ for_each_mut-requires-clause-accepts g c κs within = λ i p less same. (subst (
 pub returns-clause-took : goal.returns-clause-took
 returns-clause-took g c = λ k d less.
     let q = (c.for_each_mut.ensures k d less).1 in
-    let e : TookIts (lock_id c.args.lock.now) c.args.rules.turn q.argument.now.ctx q.after_call.now.ctx q.after_call.now.turned = q.call in
-    subst (λ x. TookIts (lock_id c.args.lock.now) c.args.rules.turn x.ctx (slice_index_or c.for_each_mut.new.s k d).ctx (slice_index_or c.for_each_mut.new.s k d).turned) q.argument_is (subst (λ y. TookIts (lock_id c.args.lock.now) c.args.rules.turn q.argument.now.ctx y.ctx y.turned) q.left e)
+    let Did : Worker g.row.N.Denot → Worker g.row.N.Denot → Type 0 = λ x y. TookIts (lock_id c.args.lock.now) c.args.rules.turn x.ctx y.ctx y.turned × CountsIts (lock_id c.args.lock.now) (g.N.Engine.count x.engine) (g.N.Engine.count y.engine) x.ctx y.ctx in
+    let e : Did q.argument.now q.after_call.now = q.call in
+    subst (λ x. Did x (slice_index_or c.for_each_mut.new.s k d)) q.argument_is (subst (Did q.argument.now) q.left e)

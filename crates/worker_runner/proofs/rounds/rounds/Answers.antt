@@ -6,8 +6,9 @@ use Rattle.worker_runner.specs.declared.round.Worker.{Worker}
 use Rattle.worker_runner.specs.declared.watch.Over.TheVariants as over
 use Rattle.worker_runner.specs.Rounds.{AreHeld, AreReady, EndIs, HadMemory}
 use Rattle.std.specs.Prelude.{All}
-use Rattle.worker_runner.specs.Workers.{MayGo, TookIts}
-use Rattle.worker_runner.proofs.Rounding.{all_go, all_held, all_held_on, all_ready_on, ends, same_slice, whole_part}
+use Rattle.worker_runner.specs.Counts.{AreCounted}
+use Rattle.worker_runner.specs.Workers.{MayGo}
+use Rattle.worker_runner.proofs.Rounding.{DidOne, all_counted_on, all_go, all_held, all_held_on, all_ready_on, ends, same_slice, whole_part}
 use Rattle.worker_runner.proofs.rounds.rounds.Given as given
 use Rattle.worker_runner.proofs.rounds.rounds.Goals as goal
 
@@ -15,6 +16,7 @@ pub loop-init : goal.loop-init
 loop-init g c = record {
   lock = c.requires.lock;
   number = c.requires.number;
+  counted = c.requires.counted;
   way = λ k s. record {
     hall = s.hall;
     saw = s.saw;
@@ -34,6 +36,7 @@ returns-in_default g c = record {
   lock = c.watch-back.ensures.lock;
   number = c.watch-back.ensures.number;
   over = λ e. c.in_default.not-On e;
+  counted = c.loop.invariant.counted;
   held = λ k s. all_held (lock_id c.args.lock.now) k c.loop.workers.items (c.loop.invariant.way k s).ready;
   came = λ k s.
       let m = c.loop.invariant.way k s in
@@ -59,8 +62,18 @@ returns-then-lacks_memory-clause-held g c = λ k s.
     let ws = c.loop.workers.items in
     let vs = c.round.new.workers in
     let count = c.round.ensures.count ∙ ap length c.as_mut_slice.ensures.value in
-    let took : (i : ℕ) (d : Worker g.row.N.Denot) → i < length ws → TookIts (lock_id c.args.lock.now) c.args.rules.turn (slice_index_or ws i d).ctx (slice_index_or vs i d).ctx (slice_index_or vs i d).turned ⊎ (slice_index_or vs i d ≡ slice_index_or ws i d) = subst (λ xs. (i : ℕ) (d : Worker g.row.N.Denot) → i < length xs → TookIts (lock_id c.args.lock.now) c.args.rules.turn (slice_index_or xs i d).ctx (slice_index_or vs i d).ctx (slice_index_or vs i d).turned ⊎ (slice_index_or vs i d ≡ slice_index_or xs i d)) c.as_mut_slice.ensures.value c.round.ensures.took in
-    subst (λ xs. AreHeld (lock_id c.args.lock.now) k xs) (sym (same_slice c.loop.workers.len vs ws count (sym c.as_mut_slice.ensures.len ∙ ap length c.as_mut_slice.ensures.value))) (all_held_on (lock_id c.args.lock.now) k c.args.rules.turn ws vs m.ready count took)
+    let took : (i : ℕ) (d : Worker g.row.N.Denot) → i < length ws → DidOne (lock_id c.args.lock.now) c.args.rules.turn g.N.Engine.count (slice_index_or ws i d) (slice_index_or vs i d) = subst (λ xs. (i : ℕ) (d : Worker g.row.N.Denot) → i < length xs → DidOne (lock_id c.args.lock.now) c.args.rules.turn g.N.Engine.count (slice_index_or xs i d) (slice_index_or vs i d)) c.as_mut_slice.ensures.value c.round.ensures.took in
+    subst (λ xs. AreHeld (lock_id c.args.lock.now) k xs) (sym (same_slice c.loop.workers.len vs ws count (sym c.as_mut_slice.ensures.len ∙ ap length c.as_mut_slice.ensures.value))) (all_held_on (lock_id c.args.lock.now) k g.N.Engine.count c.args.rules.turn ws vs m.ready count took)
+
+pub returns-then-lacks_memory-clause-counted : goal.returns-then-lacks_memory-clause-counted
+returns-then-lacks_memory-clause-counted g c =
+    let s = c.requires.start in
+    let m = c.loop.invariant.way s.0 s.1 in
+    let ws = c.loop.workers.items in
+    let vs = c.round.new.workers in
+    let count = c.round.ensures.count ∙ ap length c.as_mut_slice.ensures.value in
+    let took : (i : ℕ) (d : Worker g.row.N.Denot) → i < length ws → DidOne (lock_id c.args.lock.now) c.args.rules.turn g.N.Engine.count (slice_index_or ws i d) (slice_index_or vs i d) = subst (λ xs. (i : ℕ) (d : Worker g.row.N.Denot) → i < length xs → DidOne (lock_id c.args.lock.now) c.args.rules.turn g.N.Engine.count (slice_index_or xs i d) (slice_index_or vs i d)) c.as_mut_slice.ensures.value c.round.ensures.took in
+    subst (AreCounted g.N.Engine.count) (sym (same_slice c.loop.workers.len vs ws count (sym c.as_mut_slice.ensures.len ∙ ap length c.as_mut_slice.ensures.value))) (all_counted_on (lock_id c.args.lock.now) s.0 g.N.Engine.count c.args.rules.turn ws vs m.ready count took c.loop.invariant.counted)
 
 pub returns-then-lacks_memory-clause-came : goal.returns-then-lacks_memory-clause-came
 returns-then-lacks_memory-clause-came g c = λ k s.
@@ -79,6 +92,15 @@ pub loop-preserved : goal.loop-preserved
 loop-preserved g c = record {
   lock = c.watch-back.ensures.lock;
   number = c.watch-back.ensures.number;
+  counted = (
+    let s = c.requires.start in
+    let m = c.loop.invariant.way s.0 s.1 in
+    let ws = c.loop.workers.items in
+    let vs = c.round.new.workers in
+    let count = c.round.ensures.count ∙ ap length c.as_mut_slice.ensures.value in
+    let took : (i : ℕ) (d : Worker g.row.N.Denot) → i < length ws → DidOne (lock_id c.args.lock.now) c.args.rules.turn g.N.Engine.count (slice_index_or ws i d) (slice_index_or vs i d) = subst (λ xs. (i : ℕ) (d : Worker g.row.N.Denot) → i < length xs → DidOne (lock_id c.args.lock.now) c.args.rules.turn g.N.Engine.count (slice_index_or xs i d) (slice_index_or vs i d)) c.as_mut_slice.ensures.value c.round.ensures.took in
+    subst (AreCounted g.N.Engine.count) (sym (same_slice c.loop.workers.len vs ws count (sym c.as_mut_slice.ensures.len ∙ ap length c.as_mut_slice.ensures.value))) (all_counted_on (lock_id c.args.lock.now) s.0 g.N.Engine.count c.args.rules.turn ws vs m.ready count took c.loop.invariant.counted)
+  );
   way = λ k s.
       let m = c.loop.invariant.way k s in
       let w = c.watch-back.ensures.watched m.hall m.saw m.place in
@@ -87,14 +109,14 @@ loop-preserved g c = record {
       let vs = c.round.new.workers in
       let count = c.round.ensures.count ∙ ap length c.as_mut_slice.ensures.value in
       let is = same_slice c.loop.workers.len vs ws count (sym c.as_mut_slice.ensures.len ∙ ap length c.as_mut_slice.ensures.value) in
-      let took : (i : ℕ) (d : Worker g.row.N.Denot) → i < length ws → TookIts (lock_id c.args.lock.now) c.args.rules.turn (slice_index_or ws i d).ctx (slice_index_or vs i d).ctx (slice_index_or vs i d).turned ⊎ (slice_index_or vs i d ≡ slice_index_or ws i d) = subst (λ xs. (i : ℕ) (d : Worker g.row.N.Denot) → i < length xs → TookIts (lock_id c.args.lock.now) c.args.rules.turn (slice_index_or xs i d).ctx (slice_index_or vs i d).ctx (slice_index_or vs i d).turned ⊎ (slice_index_or vs i d ≡ slice_index_or xs i d)) c.as_mut_slice.ensures.value c.round.ensures.took in
+      let took : (i : ℕ) (d : Worker g.row.N.Denot) → i < length ws → DidOne (lock_id c.args.lock.now) c.args.rules.turn g.N.Engine.count (slice_index_or ws i d) (slice_index_or vs i d) = subst (λ xs. (i : ℕ) (d : Worker g.row.N.Denot) → i < length xs → DidOne (lock_id c.args.lock.now) c.args.rules.turn g.N.Engine.count (slice_index_or xs i d) (slice_index_or vs i d)) c.as_mut_slice.ensures.value c.round.ensures.took in
       let had : (i : ℕ) (d : Worker g.row.N.Denot) → i < length vs → HadMemory (slice_index_or vs i d).turned = subst (λ xs. (i : ℕ) (d : Worker g.row.N.Denot) → i < length xs → HadMemory (slice_index_or xs i d).turned) (c.as_slice.ensures.value ∙ is) (c.lacks_memory.ensures c.if-lacks_memory.false) in
       record {
         hall = w.hall;
         saw = w.saw;
         case = w.case ∙ m.case;
         place = w.place;
-        ready = subst (λ xs. AreReady (lock_id c.args.lock.now) k xs) (sym is) (all_ready_on (lock_id c.args.lock.now) k c.args.rules.turn ws vs m.ready count took had);
+        ready = subst (λ xs. AreReady (lock_id c.args.lock.now) k xs) (sym is) (all_ready_on (lock_id c.args.lock.now) k g.N.Engine.count c.args.rules.turn ws vs m.ready count took had);
         first = e.0;
         second = e.1;
       };

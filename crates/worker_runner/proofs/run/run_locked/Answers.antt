@@ -8,6 +8,7 @@ use Rattle.thread_step.specs.Context.{HallOf}
 use Rattle.worker_runner.specs.declared.round.Worker.{Worker}
 use Rattle.worker_runner.specs.Rounds.{AreHeld, AreReady, Starts}
 use Rattle.worker_runner.specs.Workers.{AreFirstPasses, Begins, IsFirstPass}
+use Rattle.worker_runner.proofs.Gathering.{fresh_counted}
 use Rattle.worker_runner.proofs.Ending.{no_first, no_second}
 use Rattle.worker_runner.proofs.Pairing.{split_passes}
 use Rattle.worker_runner.proofs.run.run_locked.Goals as goal
@@ -39,6 +40,12 @@ pub rounds-driver-requires-clause-number : goal.rounds-driver-requires-clause-nu
 rounds-driver-requires-clause-number g c κs within =
     let b = c.requires.begins in
     (split_passes (lock_id c.args.lock) b.0 c.args.dealt.items c.pop.new.self.items c.in-Some.driver c.in-Some.ensures.items b.1.many b.1.passes_are).1.number
+
+pub rounds-driver-requires-clause-counted : goal.rounds-driver-requires-clause-counted
+rounds-driver-requires-clause-counted g c κs within =
+    let b = c.requires.begins in
+    let s = split_passes (lock_id c.args.lock) b.0 c.args.dealt.items c.pop.new.self.items c.in-Some.driver c.in-Some.ensures.items b.1.many b.1.passes_are in
+    fresh_counted g.N.Engine.count b.0 c.make_workers-workers.result.items b.1.none (c.make_workers-workers.ensures.fresh (lock_id c.args.lock) b.0 b.1.guests_are s.0)
 
 pub rounds-driver-requires-clause-start : goal.rounds-driver-requires-clause-start
 rounds-driver-requires-clause-start g c κs within =
@@ -76,5 +83,6 @@ returns g c =
           let su = starts (lock_id c.args.lock) h c.args.rules c.args.guests.items c.args.dealt.items c.in-Some.driver c.make_workers-workers.result.items begins t.1 (c.make_workers-workers.ensures.ready (lock_id c.args.lock) h begins.guests_are t.0) in
           let n = c.rounds-driver.ensures.came h.case su in
           (c.take_back-hall.ensures.goes n.hall n.saw (subst (λ k. AreHeld (lock_id c.args.lock) k c.rounds-driver.new.workers.items) (sym n.case) (c.rounds-driver.ensures.held h.case su))).case ∙ n.case;
+      count = c.take_back-hall.ensures.count c.rounds-driver.ensures.counted;
       outputs = c.end-ran.ensures m.hall c.args.out.now c.args.err.now (c.take_back-hall.ensures.goes m.hall m.saw held) m.place m.end;
     }

@@ -1,6 +1,8 @@
 use Rattle.std.proofs.Common.{◌≡◌, ◌<◌, ◌+◌, length, refl, sym, subst, ap, ◌∙◌, arith}
 use Rattle.turn_lock.specs.Lock.{lock_id}
 use Rattle.worker_runner.specs.Workers.{Begins}
+use Rattle.thread_step.specs.Context.{HallOf}
+use Rattle.worker_runner.proofs.Ending.{none_ran}
 use Rattle.worker_runner.proofs.run.run_with.Goals as goal
 
 pub run_locked-requires-clause-begins : goal.run_locked-requires-clause-begins
@@ -30,3 +32,12 @@ returns-in-Ok-make-clause-case g c = c.run_locked.ensures.case c.args.hall (reco
     saw = record { case = c.in-Ok-make.ensures.same_case k d less; journal = c.in-Ok-make.ensures.seen k d less; leads = c.facts.ensures.gated };
   };
 })
+
+pub returns-in_default-clause-count : goal.returns-in_default-clause-count
+returns-in_default-clause-count g c = none_ran (g.N.Engine.count c.args.engine.now) c.args.hall c.requires.first
+
+pub returns-in_default-with_capacity-clause-count : goal.returns-in_default-with_capacity-clause-count
+returns-in_default-with_capacity-clause-count g c = none_ran (g.N.Engine.count c.args.engine.now) c.args.hall c.requires.first
+
+pub returns-in-Err-clause-count : goal.returns-in-Err-clause-count
+returns-in-Err-clause-count g c = none_ran (g.N.Engine.count c.args.engine.now) c.in-Err.hall (ap (λ (h : HallOf). h.journal) c.in-Err.ensures.refused ∙ c.requires.first)
