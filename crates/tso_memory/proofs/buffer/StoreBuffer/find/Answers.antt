@@ -1,4 +1,4 @@
-use Rattle.std.proofs.Common.{◌≡◌, ℕ, ◌+◌, ◌-◌, ◌<◌, List, take, sym, subst, ◌∙◌, arith}
+use Rattle.std.proofs.Common.{◌+◌, ◌-◌, ◌<◌, List, sym, subst, ◌∙◌, arith}
 use Rattle.std.specs.Int.{byte_at}
 use Rattle.tso_memory.specs.declared.write.PendingWrite.{PendingWrite}
 use Rattle.tso_memory.specs.Buffer.{seen, size_of}

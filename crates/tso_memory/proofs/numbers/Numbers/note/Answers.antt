@@ -1,4 +1,4 @@
-use Rattle.std.proofs.Common.{◌≡◌, List, ◌∷◌, [], ◌++◌, length, sym, arith}
+use Rattle.std.proofs.Common.{arith}
 use Rattle.tso_memory.proofs.NumberLemmas.{numbered_push}
 use Rattle.tso_memory.proofs.numbers.Numbers.note.Goals as goal
 
