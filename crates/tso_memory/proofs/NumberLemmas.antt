@@ -1,5 +1,5 @@
 -- What a buffer shows by the writes that its numbers name.
-use Rattle.std.proofs.Common.{◌≡◌, ℕ, zero, suc, ◌+◌, ◌-◌, ◌/◌, ◌%◌, ◌^◌, ◌<◌, ◌≤◌, Bool, true, false, cond, List, [], ◌∷◌, ◌++◌, length, get_or, set, take, drop, max, replicate, slice_get, Some, refl, sym, ap, subst, ◌∙◌, ◌⊎◌, inl, inr, arith}
+use Rattle.std.proofs.Common.{◌≡◌, ℕ, zero, suc, ◌+◌, ◌-◌, ◌/◌, ◌^◌, ◌<◌, ◌≤◌, Bool, true, false, cond, List, [], ◌∷◌, ◌++◌, length, get_or, set, take, drop, max, replicate, slice_get, Option, Some, None, refl, sym, ap, subst, ◌∙◌, ◌⊎◌, inl, inr, arith}
 use Rattle.std.specs.Int.{byte_at, bytes_low_first}
 use Rattle.byteorder.specs.Endian.{little_number}
 use Rattle.std.proofs.lemmas.Bool.{cases_eq}
@@ -13,18 +13,17 @@ use Rattle.tso_memory.specs.Buffer.{covers, seen, size_of}
 use Rattle.tso_memory.specs.Memory.{number_from}
 use Rattle.tso_memory.proofs.BufferLemmas.{low_first_at}
 use Rattle.tso_memory.proofs.MemoryLemmas.{number_from-little}
-use Rattle.tso_memory.specs.Numbers.{class_of, IsNumbered}
+use Rattle.tso_memory.specs.Numbers.{class_of, class_of_eight, IsNumbered}
 
 -- an access of up to 8 bytes lies in the classes of its first and of its last byte
 pub class_span : (a n x : ℕ) → 0 < n → n ≤ 8 → a ≤ x → x < a + n → (class_of x ≡ class_of a) ⊎ (class_of x ≡ class_of (a + (n - 1)))
-unfolding class_of
 class_span a n x some narrow from to = elim (cases_eq (x / 8) (a / 8)) [
-  | inl same ↦ inl (ap (λ (q : ℕ). q % 1024) same)
-  | inr ne ↦ let last : x / 8 ≡ (a + (n - 1)) / 8 = omega arith in inr (ap (λ (q : ℕ). q % 1024) last)
+  | inl same ↦ inl (ap class_of_eight same)
+  | inr ne ↦ let last : x / 8 ≡ (a + (n - 1)) / 8 = omega arith in inr (ap class_of_eight last)
 ]
 
 pub class_below : (x : ℕ) → class_of x < 1024
-unfolding class_of
+unfolding class_of_eight
 class_below x = omega arith
 
 -- writes none of which covers the address show nothing
@@ -72,7 +71,7 @@ numbered_none xs n e size = record {
   classes = ap length e ∙ (length-replicate n 0 ∙ size);
   named = λ i x p f t. cc;
   bound = λ c h. (let zero_there : get_or xs c 0 ≡ 0 = ap (λ (ys : List ℕ). get_or ys c 0) e ∙ get_or-replicate n c 0 0 (omega (arith, size)) in omega (arith, zero_there));
-  small = omega arith
+  small = omega arith;
 }
 
 -- each class may have a number past all that wait
@@ -81,7 +80,7 @@ numbered_again ps n newest size few classes each = record {
   classes = classes;
   named = λ i x p e t. (let within : i < length ps = slice_get_within ps i p e in omega (arith, within, each (class_of x) (class_below x)));
   bound = λ c h. omega (arith, each c h);
-  small = omega arith
+  small = omega arith;
 }
 
 pub numbered_pop : (p : PendingWrite) (ps : List PendingWrite) (first : ℕ) (newest : List ℕ) → IsNumbered (p ∷ ps) first newest → IsNumbered ps (first + 1) newest
@@ -89,7 +88,7 @@ numbered_pop p ps first newest h = record {
   classes = h.classes;
   named = λ i x q e t. omega (arith, h.named (suc i) x q e t);
   bound = λ c below. omega (arith, h.bound c below);
-  small = omega (arith, h.small)
+  small = omega (arith, h.small);
 }
 
 -- a number set at two classes
@@ -142,23 +141,31 @@ numbered_push ps p first newest room h = record { classes = size; named = name; 
   where
     low : ℕ
     low = class_of p.at
+
     high : ℕ
     high = class_of (p.at + (size_of p.width - 1))
+
     v : ℕ
     v = first + length ps + 1
+
     new : List ℕ
     new = set (set newest low v) high v
+
     more : length (ps ++ p ∷ []) ≡ length ps + 1
     more = length_push ps p
+
     size : length new ≡ 1024
     size = length-set (set newest low v) high v ∙ (length-set newest low v ∙ h.classes)
+
     few : first + length (ps ++ p ∷ []) ≤ 2 ^ 63
     few = omega (arith, more)
+
     below : (c : ℕ) → c < 1024 → get_or new c 0 ≤ first + length (ps ++ p ∷ [])
     below c hc = elim (two_cases newest low high v c h.classes (class_below p.at) (class_below (p.at + (size_of p.width - 1))) hc) [
       | inl set_there ↦ omega (arith, more, set_there)
       | inr before ↦ omega (arith, more, before, h.bound c hc)
     ]
+
     name : (i x : ℕ) (q : PendingWrite) → slice_get (ps ++ p ∷ []) i ≡ Some q → covers q x ≡ true → first + i < get_or new (class_of x) 0
     name i x q e t = elim (pushed_get ps p q i e) [
       | inl here ↦
@@ -200,6 +207,15 @@ seen_here ps n k p x b less e inside so_far =
 pub seen_zero : (ps : List PendingWrite) (n k x b : ℕ) → n ≤ k → seen (take (n - k) ps) x b ≡ seen (take n ps) x b → seen (take n ps) x b ≡ b
 unfolding seen
 seen_zero ps n k x b past so_far = let none : n - k ≡ 0 = omega arith in sym so_far ∙ (ap (λ (m : ℕ). seen (take m ps) x b) none)
+
+-- a byte that is there where a test holds
+pub byte_there : (b : Bool) (v w : ℕ) (r : Option ℕ) → r ≡ cond b (Some v) None → r ≡ Some w → (b ≡ true) × (w ≡ v)
+byte_there true v w r is e = (refl, cc)
+byte_there false v w r is e = cc
+
+pub byte_missing : (b : Bool) (v : ℕ) (r : Option ℕ) → r ≡ cond b (Some v) None → r ≡ None → b ≡ false
+byte_missing true v r is e = cc
+byte_missing false v r is e = refl
 
 -- the number from an address on by the bytes of a write's value
 pub write_bytes : (bytes : List ℕ) (at a value n : ℕ) → bytes ≡ bytes_low_first 0 8 value → at ≤ a → a - at + n ≤ 8 → number_from (λ x. byte_at (x - at) value) n a ≡ little_number n (drop (a - at) bytes)

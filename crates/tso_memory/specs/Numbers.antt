@@ -1,14 +1,18 @@
 -- Numbers of waiting writes, by classes of addresses, and what a look into a buffer finds. No public contract cites them.
-use Rattle.std.specs.Prelude.{◌≡◌, ℕ, ◌+◌, ◌/◌, ◌%◌, ◌^◌, ◌<◌, ◌≤◌, true, List, length, slice_get, slice_index, Some, ⊤}
+use Rattle.std.specs.Prelude.{◌≡◌, ℕ, ◌+◌, ◌*◌, ◌/◌, ◌%◌, ◌^◌, ◌<◌, ◌≤◌, true, List, length, slice_get, slice_index, Some, ⊤}
 use Rattle.tso_memory.specs.declared.write.PendingWrite.{PendingWrite}
 use Rattle.tso_memory.specs.declared.found.Found.{Found}
 use Rattle.tso_memory.specs.declared.found.Found.TheVariants.{Nothing, Number, Several}
 use Rattle.tso_memory.specs.Buffer.{covers, seen}
 use Rattle.tso_memory.specs.Memory.{number_from}
 
--- the class of an address: one of 1,024, by its eight bytes
-unfoldable pub class_of : ℕ → ℕ
-class_of x = x / 8 % 1024
+-- the class of the eight bytes of this number: one of 1,024
+unfoldable pub class_of_eight : ℕ → ℕ
+class_of_eight q = (q + 67 * (q / 1024)) % 1024
+
+-- the class of an address, by the eight bytes that it is in
+abbrev pub class_of : ℕ → ℕ
+class_of x = class_of_eight (x / 8)
 
 -- the waiting writes have numbers from first on, in their order; the newest write that covers an address of a class has
 -- a number below the class's, and no class's number is past those of the waiting writes

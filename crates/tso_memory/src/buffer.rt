@@ -120,12 +120,15 @@ impl StoreBuffer {
     pub(crate) fn seen(&self, x: u64, byte: u8) -> u8
         ensures { result ≡ seen self.now x byte }
     {
-        let mut found = byte;
-        for i in 0..self.ring.len() {
-            if let Some(newer) = self.ring.get(i) {
-                found = newer.byte(x, found);
+        let reach = self.numbers.reach(x, 1);
+        for k in 0..reach {
+            let i = reach - 1 - k;
+            if let Some(write) = self.ring.get(i) {
+                if let Some(newest) = write.byte(x) {
+                    return newest;
+                }
             }
         }
-        found
+        byte
     }
 }

@@ -3,7 +3,7 @@
 ghost use Rattle.std.specs.Prelude.{◌≡◌, ℕ, ◌+◌, ◌-◌, ◌^◌, ◌<◌, ◌≤◌, List, [], ◌∷◌, ◌++◌, length, take, IfOk};
 ghost use Rattle.tso_memory.specs.declared.write.PendingWrite.{PendingWrite};
 ghost use Rattle.tso_memory.specs.Buffer.{seen};
-ghost use Rattle.tso_memory.specs.Numbers.{IsNumbered, class_of};
+ghost use Rattle.tso_memory.specs.Numbers.{IsNumbered, class_of, class_of_eight};
 
 use crate::write::PendingWrite;
 use std::alloc::{AllocError, Global};
@@ -23,24 +23,33 @@ pub struct Numbers {
     newest: Vec<u64>,
 }
 
+/// The class of the eight bytes of a number. Places that lie a small multiple of 8 KiB apart, as the elements of one
+/// index in two arrays often do, are in classes that lie 67 or more apart.
+#[tactic(auto, unfolding(crate::specs::Numbers::class_of_eight))]
+fn class_of_eight(eight: u64) -> usize
+    requires { eight ≤ 2 ^ 61 }
+    ensures class { result ≡ class_of_eight eight }
+    ensures within { result < 1024 }
+{
+    ((eight + 67 * (eight / 1024)) % 1024) as usize
+}
+
 /// The class of an address.
-#[tactic(auto, unfolding(crate::specs::Numbers::class_of))]
 fn class(x: u64) -> usize
     ensures class { result ≡ class_of x }
     ensures within { result < 1024 }
 {
-    (x / 8 % 1024) as usize
+    class_of_eight(x / 8)
 }
 
-/// The class of the last of `size` bytes from an address on.
-#[tactic(auto, unfolding(crate::specs::Numbers::class_of))]
+/// The class of the last of `size` bytes from an address on, which may lie past all addresses.
 fn last_class(a: u64, size: usize) -> usize
     requires some { 0 < size }
     requires narrow { size ≤ 8 }
     ensures class { result ≡ class_of (a + (size - 1)) }
     ensures within { result < 1024 }
 {
-    ((a / 8 + (a % 8 + (size as u64 - 1)) / 8) % 1024) as usize
+    class_of_eight(a / 8 + (a % 8 + (size as u64 - 1)) / 8)
 }
 
 impl Numbers {

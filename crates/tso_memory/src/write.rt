@@ -1,6 +1,6 @@
 //! Writes and their widths.
 
-ghost use Rattle.std.specs.Prelude.{◌≡◌, ℕ, ◌+◌, ◌-◌, ◌%◌, ◌^◌, ◌<◌, ◌≤◌, true, false, IfSome, if◌then◌else◌};
+ghost use Rattle.std.specs.Prelude.{◌≡◌, ℕ, ◌+◌, ◌-◌, ◌%◌, ◌^◌, ◌<◌, ◌≤◌, true, false, Some, None, IfSome, if◌then◌else◌};
 ghost use Rattle.std.specs.Bool.{OnFalse};
 ghost use Rattle.std.specs.Int.{byte_at};
 
@@ -66,14 +66,14 @@ impl PendingWrite {
         }
     }
 
-    /// The byte at an address: this write's where it covers it, else `byte`.
-    pub(crate) fn byte(&self, x: u64, byte: u8) -> u8
-        ensures { result ≡ (if covers self.now x then byte_at (x - self.now.at) self.now.value else byte) }
+    /// The byte that the write brings to an address, where it covers it.
+    pub(crate) fn byte(&self, x: u64) -> Option<u8>
+        ensures { result ≡ (if covers self.now x then Some (byte_at (x - self.now.at) self.now.value) else None) }
     {
         if self.at <= x && x - self.at < self.width.size() as u64 {
-            self.value.to_le_bytes()[(x - self.at) as usize]
+            Some(self.value.to_le_bytes()[(x - self.at) as usize])
         } else {
-            byte
+            None
         }
     }
 
