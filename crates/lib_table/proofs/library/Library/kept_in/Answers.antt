@@ -1,4 +1,4 @@
-use Rattle.std.proofs.Common.{◌≡◌, ℕ, ◌<◌, true, false, Option, Some, None, sym, ap, ◌∙◌, inl, inr, arith}
+use Rattle.std.proofs.Common.{◌≡◌, ℕ, ◌<◌, true, false, Option, Some, None, sym, ap, ◌∙◌, inl, inr}
 use Rattle.address_space.specs.Slots.{slot_of}
 use Rattle.address_space.proofs.Numbers.{slot_back}
 use Rattle.lib_table.specs.Library.{is_free, is_kept, is_thread, is_unborn, kept_in}
