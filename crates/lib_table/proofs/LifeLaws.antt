@@ -1,7 +1,7 @@
 -- Laws of lives: a change of one thread's life leaves the life of every other number as it was.
-use Rattle.std.proofs.Common.{◌≡◌, ◌≢◌, ℕ, suc, ◌+◌, ◌^◌, ◌<◌, Bool, true, false, cond, List, length, get_or, set, Option, Some, None, refl, sym, ap, ◌∙◌, inl, inr, arith, get_or-set_same, get_or-set_other}
-use Rattle.std.specs.Prelude.{option_map, position}
-use Rattle.std.proofs.lemmas.Bool.{cases_lt}
+use Rattle.std.proofs.Common.{◌≡◌, ◌≢◌, ℕ, suc, ◌+◌, ◌<◌, Bool, true, false, cond, length, get_or, set, Option, Some, None, refl, sym, ap, ◌∙◌, inl, inr, arith, get_or-set_same, get_or-set_other}
+use Rattle.std.specs.Prelude.{◌==◌, option_map}
+use Rattle.std.proofs.lemmas.Bool.{cases_eq, cases_lt}
 use Rattle.std.proofs.lemmas.Bool.Decides.{nat_tests}
 use Rattle.std.proofs.lemmas.List.Quantifiers.{position-Some}
 use Rattle.address_space.specs.Slots.{slot_of, generation_of, number_in}
@@ -9,7 +9,7 @@ use Rattle.address_space.proofs.Numbers.{number_back, slot_below, slot_back, gen
 use Rattle.lib_table.specs.declared.life.Life.{Life}
 use Rattle.lib_table.specs.declared.life.Life.TheVariants.{Unborn, Live, Ended, Joined}
 use Rattle.lib_table.specs.declared.slot.Slot.{Slot}
-use Rattle.lib_table.specs.Library.{LibraryData, free_slot, is_free, is_kept, is_unborn, life_at, life_in, new_slot, next_number, number_at, slot_at, with_joined, with_life}
+use Rattle.lib_table.specs.Library.{LibraryData, free_slot, is_free, is_kept, is_thread, is_unborn, kept_in, life_at, life_in, new_slot, next_number, number_at, slot_at, with_joined, with_life}
 use Rattle.lib_table.proofs.SlotLemmas.{kept-own}
 
 -- ---- within a slot
@@ -128,3 +128,45 @@ number_from l u (Some s) is e few =
 -- the number of the next thread is unborn, and the least of its slot that wasn't joined
 pub next-unborn : (l : LibraryData) (u : ℕ) → next_number l ≡ Some u → length l.slots ≡ 64 → IsNext l u × (life_at l u ≡ Unborn)
 next-unborn l u e few = number_from l u (free_slot l) refl e few
+
+-- ---- the thread in a slot
+
+number_if : (k : Bool) (o u : ℕ) → is_thread (cond k (Some o) None) u ≡ cond k (o == u) false
+number_if true o u = refl
+number_if false o u = refl
+
+if_same : (k : Bool) (o u : ℕ) → o ≡ u → cond k (o == u) false ≡ k
+if_same true o u e = grind (arith, nat_tests)
+if_same false o u e = refl
+
+if_other : (k : Bool) (o u : ℕ) → o ≢ u → cond k (o == u) false ≡ false
+if_other true o u ne = grind (arith, nat_tests)
+if_other false o u ne = refl
+
+not_true : (b : Bool) → (b ≡ true → ⊥) → b ≡ false
+not_true true far = absurd (far refl)
+not_true false far = refl
+
+-- of a slot's numbers the one that is told, and no other, lives or has ended
+pub kept_in-only : (l : LibraryData) (s u : ℕ) → slot_of u ≡ s → is_thread (kept_in l s) u ≡ is_kept (life_at l u)
+kept_in-only l s u at =
+    let x = slot_at l s in
+    let low : s < 64 = omega (arith, slot_below u, at) in
+    let there : life_at l u ≡ life_in x (generation_of u) = ap (λ y. life_in (slot_at l y) (generation_of u)) at in
+    number_if (is_kept x.life) (number_in s x.generation) u ∙ elim (cases_eq (generation_of u) x.generation) [
+      | inl same ↦
+          let number : number_in s x.generation ≡ u = ap (λ y. number_in y x.generation) (sym at) ∙ (ap (number_in (slot_of u)) (sym same) ∙ number_back u) in
+          let own : life_in x (generation_of u) ≡ x.life = ap (life_in x) same ∙ life-at_own x in
+          if_same (is_kept x.life) (number_in s x.generation) u number ∙ sym (ap is_kept (there ∙ own))
+      | inr other ↦
+          let apart : number_in s x.generation ≢ u = λ e. other (ap generation_of (sym e) ∙ generation_back s x.generation low) in
+          if_other (is_kept x.life) (number_in s x.generation) u apart ∙ sym (not_true (is_kept (life_at l u)) (λ k. other (kept-own x (generation_of u) (ap is_kept (sym there) ∙ k)).0))
+    ]
+
+pub kept_in-there : (l : LibraryData) (s n : ℕ) (slot : Slot) → slot ≡ slot_at l s → is_kept slot.life ≡ true → n ≡ number_in s slot.generation → kept_in l s ≡ Some n
+kept_in-there l s n slot at kept number =
+    ap (λ (k : Bool). cond k (Some (number_at l s)) None) (ap (λ (x : Slot). is_kept x.life) (sym at) ∙ kept)
+    ∙ ap Some (ap (λ (x : Slot). number_in s x.generation) (sym at) ∙ sym number)
+
+pub kept_in-none : (l : LibraryData) (s : ℕ) (slot : Slot) → slot ≡ slot_at l s → is_kept slot.life ≡ false → kept_in l s ≡ None
+kept_in-none l s slot at free = ap (λ (k : Bool). cond k (Some (number_at l s)) None) (ap (λ (x : Slot). is_kept x.life) (sym at) ∙ free)

@@ -1,5 +1,5 @@
 -- What comes of the calls of condition variables, barriers and once.
-use Rattle.std.proofs.Common.{◌≡◌, ℕ, ◌+◌, ◌-◌, ◌%◌, ◌^◌, nat_lt, Bool, true, false, cond, ◌&&◌, not, List, ◌∷◌, Option, Some, None, refl, sym, ap, subst, ◌∙◌, rules}
+use Rattle.std.proofs.Common.{◌≡◌, ℕ, ◌+◌, ◌-◌, ◌%◌, ◌^◌, nat_lt, Bool, true, false, cond, ◌&&◌, not, List, ◌∷◌, Option, Some, None, refl, sym, ap, ◌∙◌, rules}
 use Rattle.std.specs.Prelude.{option_map}
 use Rattle.std.specs.FinMap.{get}
 use Rattle.tso_memory.specs.Memory.{Memory}
@@ -26,7 +26,7 @@ use Rattle.address_space.specs.declared.TheConstants.{CALL_DOOR}
 use Rattle.lib_table.specs.declared.answer.Called.TheVariants.{Probe}
 use Rattle.lib_table.specs.declared.limits.TheConstants.{MAX_FRAMES}
 use Rattle.lib_table.specs.Library.{LibraryData, is_held_by, with_held, without_held, with_rooms}
-use Rattle.lib_table.specs.Outcome.{RowResult, Done, Bad, a2, put_word, returned, sync_args, unless_denied, unwritable}
+use Rattle.lib_table.specs.Outcome.{Done, Bad, a2, put_word, returned, sync_args, unless_denied, unwritable}
 use Rattle.lib_table.specs.Searches.{probe_rsp}
 use Rattle.lib_table.specs.Sync.{comes_to, cond_wait, is_simple, is_simple_name, is_takeable, is_wake, obstacle, once, once_frame, replied, replied_letting_go}
 

@@ -1,5 +1,5 @@
 -- The library's data in the guest's terms: which threads live, who holds which mutex, the input and the outputs.
-use Rattle.std.specs.Prelude.{ℕ, ◌+◌, ◌-◌, ◌*◌, ◌^◌, ◌<◌, ◌≡◌, ◌==◌, nat_lt, ◌||◌, not, Bool, true, false, if◌then◌else◌, List, [], ◌∷◌, ◌++◌, drop, replicate, position, slice_index_or, slice_set, Option, Some, None, is_some, option_map}
+use Rattle.std.specs.Prelude.{ℕ, ◌+◌, ◌-◌, ◌^◌, ◌<◌, ◌≡◌, ◌==◌, nat_lt, ◌||◌, not, Bool, true, false, if◌then◌else◌, List, [], ◌∷◌, ◌++◌, drop, replicate, position, slice_index_or, slice_set, Option, Some, None, is_some, option_map}
 use Rattle.std.specs.Ordering.{nat_cmp}
 use Rattle.std.specs.FinMap.{FinMap, empty, get, insert, remove}
 use Rattle.address_space.specs.declared.TheConstants.{SLOTS}
@@ -116,7 +116,7 @@ HasNumbers l = (s : ℕ) → s < SLOTS → is_free (slot_at l s) ≡ true → nu
 abbrev pub has_number : Slot → Bool
 has_number s = not (is_free s) || nat_lt s.generation (2 ^ 26)
 
--- the thread that lives in a slot
+-- the thread in a slot
 
 abbrev pub live_number : ℕ → Life → Option ℕ
 live_number u Unborn = None
@@ -126,6 +126,10 @@ live_number u Joined = None
 
 abbrev pub thread_in : LibraryData → ℕ → Option ℕ
 thread_in l s = live_number (number_at l s) (slot_at l s).life
+
+-- the number of the thread that lives or has ended there
+abbrev pub kept_in : LibraryData → ℕ → Option ℕ
+kept_in l s = if is_kept (slot_at l s).life then Some (number_at l s) else None
 
 abbrev pub born_for : ℕ → Life → Option Birth
 born_for u Unborn = None

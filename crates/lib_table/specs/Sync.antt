@@ -1,5 +1,5 @@
 -- Condition variables, barriers and one-time initialisation: POSIX pthread_cond_init, destroy, wait, signal and broadcast, pthread_barrier_init, wait and destroy, and pthread_once. Who waits where is told by the table of `sync_more`; here stands what it makes of mutexes, of memory and of the call.
-use Rattle.std.specs.Prelude.{ℕ, ◌&&◌, Bool, true, false, not, nat_lt, if◌then◌else◌, ◌+◌, ◌-◌, ◌%◌, ◌^◌, Option, Some, None, option_map}
+use Rattle.std.specs.Prelude.{ℕ, ◌&&◌, Bool, true, false, not, nat_lt, if◌then◌else◌, ◌+◌, ◌-◌, ◌%◌, ◌^◌, Option, Some, option_map}
 use Rattle.std.specs.FinMap.{len}
 use Rattle.tso_memory.specs.Memory.{Memory}
 use Rattle.callbacks.specs.declared.Frame.{Frame}

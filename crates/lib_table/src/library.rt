@@ -1,8 +1,9 @@
 //! The library's data.
 
-ghost use Rattle.std.specs.Prelude.{◌≡◌, ◌+◌, ◌<◌, ◌≤◌, ◌^◌, ◌-◌, true, false, slice_index, IfOk, OnOk, OnErr, [], length, position};
+ghost use Rattle.std.specs.Prelude.{◌≡◌, ℕ, ◌+◌, ◌<◌, ◌≤◌, ◌^◌, ◌-◌, true, false, slice_index, IfOk, IfSome, OnOk, OnErr, [], length, position};
+ghost use Rattle.address_space.specs.Slots.{slot_of};
 ghost use Rattle.std.specs.FinMap as map;
-ghost use Rattle.lib_table.specs.Library.{HasNumbers, birth, has_number, holder, is_free, is_joined, is_kept, is_live, life_at, next_number, slot_at, start_of, thread_in, with_held, with_input, with_joined, with_life, with_output, with_rooms, without_held};
+ghost use Rattle.lib_table.specs.Library.{HasNumbers, birth, has_number, holder, is_free, is_joined, is_kept, is_live, is_thread, kept_in, life_at, next_number, slot_at, start_of, thread_in, with_held, with_input, with_joined, with_life, with_output, with_rooms, without_held};
 ghost use Rattle.sync_more.specs.Barriers.{round_at};
 ghost use Rattle.sync_more.specs.Once.{is_running, with_control};
 ghost use Rattle.sync_more.specs.declared.ask.SyncName.TheVariants.{CondWait};
@@ -160,6 +161,20 @@ impl Library {
         match life {
             Life::Live { .. } => Some(number_in(slot, generation)),
             _ => None,
+        }
+    }
+
+    /// The number of the thread that lives or has ended in a slot: [`Library::life`] tells which, and what it left. `None`
+    /// exactly where none does; the slots are those below 64.
+    pub fn kept_in(&self, slot: u32) -> Option<u32>
+        ensures kept { result ≡ kept_in self.now slot }
+        ensures within { IfSome result (λ t. slot_of t ≡ slot) }
+        ensures only { (u : ℕ) → slot_of u ≡ slot → is_thread result u ≡ is_kept (life_at self.now u) }
+    {
+        let Slot { generation, life } = self.slot(slot);
+        match life {
+            Life::Live { .. } | Life::Ended(_) => Some(number_in(slot, generation)),
+            Life::Unborn | Life::Joined => None,
         }
     }
 

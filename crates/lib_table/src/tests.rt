@@ -423,10 +423,12 @@ fn check_ended<R: Abort>(
     let end = door(Asked::EndDoor, 7, None);
     check_one(rt, library, memory, 5, &end, Stepped::Done(Called::Over))?;
     assert!(rt; library.life(5) == Life::Ended(7));
+    assert!(rt; library.thread_in(5).is_none());
+    assert!(rt; library.kept_in(5) == Some(5));
     let join = ask(Function::PthreadJoin, [6, 0, 0, 0, 0]);
     check_one(rt, library, memory, 0, &join, back(0))?;
     assert!(rt; library.life(5) == Life::Joined);
-    assert!(rt; library.thread_in(5).is_none());
+    assert!(rt; library.kept_in(5).is_none());
     check_one(rt, library, memory, 0, &join, back(ESRCH))
 }
 
@@ -440,6 +442,7 @@ fn check_reused<R: Abort>(
     check_one(rt, library, memory, 0, create, back(0))?;
     assert!(rt; memory.peek_number(DATA, Width::W64).ok() == Some(70));
     assert!(rt; library.thread_in(5) == Some(69));
+    assert!(rt; library.kept_in(5) == Some(69));
     let unlock = ask(Function::MutexUnlock, [MUTEX, 0, 0, 0, 0]);
     check_one(rt, library, memory, 69, &unlock, back(EPERM))?;
     assert!(rt; library.round(0, BARRIER).is_none());
@@ -451,6 +454,9 @@ fn numbers_run_out(rt: HostRuntime) -> Result<(), Fail> {
     let mut memory = stacks(rt.alloc())?;
     assert!(rt; memory.poke(RSP, &BACK.to_le_bytes()).is_ok());
     let mut library = Library::make(rt.alloc(), Vec::new(rt.alloc()))?;
+    assert!(rt; library.kept_in(0) == Some(0));
+    assert!(rt; library.kept_in(5).is_none());
+    assert!(rt; library.kept_in(64).is_none());
     let create = ask(Function::PthreadCreate, [DATA, 0, START, 5, 0]);
     for _ in 1..64 {
         check_one(&rt, &mut library, &mut memory, 0, &create, back(0))?;

@@ -1,4 +1,4 @@
--- The case of a run, the plain machine with its journals, and the machine of two instructions.
+-- The case of a run, and the plain machine with its journals.
 pub mod CaseData
 pub mod Conversions
 pub mod State
@@ -12,4 +12,3 @@ pub mod Own
 pub mod OwnLaws
 pub mod InBlocks
 pub mod Ready
-pub mod First

@@ -11,9 +11,6 @@
 //! - `laws`, `own_laws` and `serial_laws`: what the definitions of the machine, of one entry and of the serial order come
 //!   to; `conversions` between the small types of lower crates.
 //!
-//! The module `first` is a machine of its own, of two instructions and one thread, with its own entries and endings: the
-//! program runs it until the whole machine takes its place. Only the case is shared.
-//!
 //! The crate stands on `basic_blocks` for what stands where, on `x86_model` for what a thread wants, on `tso_memory`,
 //! `guest_map`, `lib_table` and `callbacks` for memory and library, and on `miss_report`. `machine_plain` computes its
 //! definitions for tests.
@@ -22,7 +19,6 @@
 pub mod case;
 pub mod conversions;
 pub mod ending;
-pub mod first;
 pub mod laws;
 pub mod own_laws;
 pub mod serial_laws;

@@ -1,6 +1,7 @@
 pub mod PieceLemmas
 pub mod MemoryLemmas
 pub mod BufferLemmas
+pub mod NumberLemmas
 pub mod SpaceLemmas
 pub mod RunLemmas
 pub mod MakeLemmas

@@ -12,7 +12,9 @@
 mod access;
 mod buffer;
 mod change;
+mod found;
 pub mod laws;
+mod numbers;
 mod piece;
 mod space;
 #[cfg(test)]

@@ -1,6 +1,6 @@
 //! Memory itself: the pieces, without the store buffers.
 
-ghost use Rattle.std.specs.Prelude.{◌≡◌, ℕ, ◌+◌, ◌*◌, ◌^◌, ◌<◌, ◌≤◌, List, true, length, slice_index, Some, None, IfOk, OnOk, OnErr, IsTrue};
+ghost use Rattle.std.specs.Prelude.{◌≡◌, ℕ, ◌+◌, ◌*◌, ◌^◌, ◌<◌, ◌≤◌, List, true, length, drop, slice_index, Some, None, IfOk, OnOk, OnErr, IsTrue};
 ghost use Rattle.std.specs.FinMap.{empty, get};
 ghost use Rattle.byteorder.specs.Endian.{little_number};
 ghost use Rattle.tso_memory.specs.Buffer.{size_of};
@@ -46,6 +46,15 @@ pub(crate) fn word(bytes: &[u8], width: Width) -> u64
         Width::W32 => LittleEndian::read_u32(bytes) as u64,
         Width::W64 => LittleEndian::read_u64(bytes),
     }
+}
+
+/// The number in the bytes from a place on, the lowest first.
+pub(crate) fn word_from(bytes: &[u8], place: usize, width: Width) -> u64
+    requires { place + size_of width ≤ length bytes.now }
+    ensures number { result ≡ little_number (size_of width) (drop place bytes.now) }
+    ensures fits { result < 256 ^ size_of width }
+{
+    word(&bytes[place..], width)
 }
 
 impl AddressSpace {

@@ -3,7 +3,7 @@
 ghost use Rattle.std.specs.Prelude.{◌≡◌, ◌^◌, ◌<◌, ◌≤◌, length, IfOk};
 ghost use Rattle.tso_memory.specs.Piece.{end_of};
 
-use crate::{Change, Denied, Piece, Tso, Width};
+use crate::{Change, Denied, PendingWrite, Piece, Tso, Width};
 use std::alloc::{AllocError, Global};
 use std::process::Abort;
 use std::test::Fail;
@@ -87,6 +87,153 @@ fn both_loads_may_see_zero(rt: HostRuntime) -> Result<(), Fail> {
         memory.flush(1);
     }
     assert!(rt; memory.is_empty(1));
+    Ok(())
+}
+
+// what is stored, and what the storing thread then loads where; before, it sees memory
+#[test]
+fn the_newest_store_decides(rt: HostRuntime) -> Result<(), Fail> {
+    let mut memory = row_image(rt.alloc(), 0x8000)?;
+    assert!(rt; memory.poke(0x409010, &[1, 2, 3, 4, 5, 6, 7, 8]).is_ok());
+    assert_eq!(rt;
+        memory.load(0, 0x409010, Width::W64),
+        Ok(0x0807_0605_0403_0201)
+    );
+    let rows = [
+        // meets partly: the other bytes are memory's
+        (
+            0x409014,
+            Width::W16,
+            0xabcd,
+            0x409010,
+            Width::W64,
+            0x0807_abcd_0403_0201,
+        ),
+        // covers, and hides the older one
+        (
+            0x409010,
+            Width::W64,
+            0x1111_2222_3333_4444,
+            0x409012,
+            Width::W32,
+            0x2222_3333,
+        ),
+        (
+            0x409010,
+            Width::W64,
+            0x5555_6666_7777_8888,
+            0x409010,
+            Width::W64,
+            0x5555_6666_7777_8888,
+        ),
+        // beside it, within the same eight bytes of a load
+        (
+            0x409018,
+            Width::W8,
+            0x99,
+            0x409014,
+            Width::W64,
+            0x99_5555_6666,
+        ),
+        // over the seam of two eights, seen in each
+        (
+            0x40902e,
+            Width::W32,
+            0xdead_beef,
+            0x409030,
+            Width::W16,
+            0xdead,
+        ),
+        (
+            0x409041,
+            Width::W8,
+            0x77,
+            0x409028,
+            Width::W64,
+            0xbeef_0000_0000_0000,
+        ),
+        // two places of one class of addresses: the older store is found behind the newer one
+        (0x409000, Width::W64, 0xa1, 0x409000, Width::W64, 0xa1),
+        (0x40ade8, Width::W64, 0xb2, 0x409000, Width::W64, 0xa1),
+        (0x40ade8, Width::W8, 0xc3, 0x40ade8, Width::W64, 0xc3),
+        // the last byte that there is
+        (0x410ff8, Width::W64, u64::MAX, 0x410fff, Width::W8, 0xff),
+    ];
+    for (to, width, value, a, size, want) in rows {
+        store(&rt, &mut memory, 0, to, width, value);
+        assert_eq!(rt; memory.load(0, a, size), Ok(want), "load at {a:#x}");
+    }
+    Ok(())
+}
+
+// a buffer that is filled and emptied again and again: its stores lie elsewhere, are found at their places, and once
+// they are flushed memory itself decides
+#[test]
+fn a_flushed_store_is_forgotten(rt: HostRuntime) -> Result<(), Fail> {
+    let mut memory = row_image(rt.alloc(), 0x1000)?;
+    for turn in 1u64..4 {
+        for i in 0u64..64 {
+            store(
+                &rt,
+                &mut memory,
+                7,
+                0x402100 + 8 * i,
+                Width::W64,
+                turn * 0x100 + i,
+            );
+        }
+        assert_eq!(rt; memory.waiting(7), 64);
+        let rows = [
+            (0x402010, Width::W64, 0),
+            (0x4020fc, Width::W32, 0),
+            (0x402100, Width::W64, turn * 0x100),
+            (0x4022f8, Width::W64, turn * 0x100 + 63),
+            (0x4022f9, Width::W8, turn),
+            (0x402300, Width::W64, 0),
+        ];
+        for (a, width, want) in rows {
+            assert_eq!(rt; memory.load(7, a, width), Ok(want), "load at {a:#x}");
+        }
+        for _ in 0..64 {
+            assert!(rt; memory.flush(7));
+        }
+        assert!(rt; memory.is_empty(7));
+        assert_eq!(rt; memory.load(7, 0x4022f8, Width::W64), Ok(turn * 0x100 + 63));
+        assert!(rt; memory.poke(0x4022f8, &[9, 9]).is_ok());
+        assert_eq!(rt; memory.load(7, 0x4022f8, Width::W64), Ok(0x909));
+    }
+    Ok(())
+}
+
+// the waiting stores by their places, the oldest at 0
+#[test]
+fn waiting_writes_are_told(rt: HostRuntime) -> Result<(), Fail> {
+    let mut memory = row_image(rt.alloc(), 0x1000)?;
+    store(&rt, &mut memory, 0, 0x402000, Width::W32, 0x1122_3344);
+    store(&rt, &mut memory, 0, 0x402201, Width::W8, 0x1ab);
+    let first = PendingWrite {
+        at: 0x402000,
+        width: Width::W32,
+        value: 0x1122_3344,
+    };
+    let second = PendingWrite {
+        at: 0x402201,
+        width: Width::W8,
+        value: 0x1ab,
+    };
+    let rows = [
+        [Some(first), Some(second), None],
+        [Some(second), None, None],
+        [None, None, None],
+    ];
+    for wants in rows {
+        for i in 0u32..3 {
+            assert_eq!(rt; memory.waiting_write(0, i), wants[i as usize], "place {i}");
+        }
+        assert_eq!(rt; memory.waiting_write(1, 0), None);
+        memory.flush(0);
+    }
+    assert_eq!(rt; memory.waiting_write(0, u32::MAX), None);
     Ok(())
 }
 

@@ -1,6 +1,6 @@
 //! Memory and the store buffers of 64 threads.
 
-ghost use Rattle.std.specs.Prelude.{◌≡◌, ℕ, ◌+◌, ◌^◌, ◌<◌, ◌≤◌, ◌==◌, [], ◌∷◌, ◌++◌, length, replicate, IfOk, OnOk, OnErr, not, if◌then◌else◌};
+ghost use Rattle.std.specs.Prelude.{◌≡◌, ℕ, ◌+◌, ◌^◌, ◌<◌, ◌≤◌, ◌==◌, [], ◌∷◌, ◌++◌, length, replicate, slice_get, IfOk, OnOk, OnErr, not, if◌then◌else◌};
 ghost use Rattle.tso_memory.specs.declared.access.Access.TheVariants.{Load, Store, Locked};
 ghost use Rattle.tso_memory.specs.Buffer.{size_of, pending, seen};
 ghost use Rattle.tso_memory.specs.Memory.{byte_of, may, first_denied, refusal, number_from, bytes_from};
@@ -10,6 +10,7 @@ ghost use Rattle.tso_memory.specs.Tso.{buffer_of, seen_by, stored, flushed, poke
 use crate::access::{Access, Denied};
 use crate::buffer::StoreBuffer;
 use crate::change::Change;
+use crate::found::Found;
 use crate::piece::Piece;
 use crate::space::{AddressSpace, word};
 use crate::write::{PendingWrite, Width};
@@ -94,11 +95,17 @@ impl Tso {
         ensures rights { refusal result ≡ first_denied (may self.now.memory Load) a (size_of width) }
     {
         let buffer = &self.buffers[t as usize];
-        if !buffer.meets(a, width.size()) {
-            return self.space.read(a, width);
+        match buffer.find(a, width) {
+            Found::Nothing => self.space.read(a, width),
+            Found::Number(number) => {
+                self.space.check(a, width.size() as u64, Access::Load)?;
+                Ok(number)
+            }
+            Found::Several => {
+                self.space.check(a, width.size() as u64, Access::Load)?;
+                Ok(number_seen(&self.space, buffer, a, width))
+            }
         }
-        self.space.check(a, width.size() as u64, Access::Load)?;
-        Ok(number_seen(&self.space, buffer, a, width))
     }
 
     /// Stores the lowest bytes of `value` from address `a` on for thread `t`: the store joins the thread's buffer, and
@@ -151,6 +158,14 @@ impl Tso {
         ensures threads { length self.now.buffers ≡ 64 }
     {
         self.buffers[t as usize].len() as u32
+    }
+
+    /// The waiting store of thread `t` that stands at place `i`, the oldest at 0; `None` where no more than `i` wait.
+    pub fn waiting_write(&self, t: u32, i: u32) -> Option<PendingWrite>
+        requires { t < 64 }
+        ensures { result ≡ slice_get (buffer_of self.now t) i }
+    {
+        self.buffers[t as usize].get(i as usize)
     }
 
     /// Reads the number of `width` from address `a` on in memory itself, and writes what `change` makes of it, in one

@@ -1,8 +1,10 @@
 //! Writes and their widths.
 
-ghost use Rattle.std.specs.Prelude.{◌≡◌, ℕ, ◌+◌, ◌-◌, ◌%◌, ◌^◌, ◌<◌, ◌≤◌, false, if◌then◌else◌};
+ghost use Rattle.std.specs.Prelude.{◌≡◌, ℕ, ◌+◌, ◌-◌, ◌%◌, ◌^◌, ◌<◌, ◌≤◌, true, false, Some, None, IfSome, if◌then◌else◌};
 ghost use Rattle.std.specs.Bool.{OnFalse};
 ghost use Rattle.std.specs.Int.{byte_at};
+
+use crate::space::word_from;
 
 /// How many bytes an access has: 1, 2, 4 or 8.
 #[derive(Clone, Copy, Debug, PartialEq, Eq)]
@@ -51,6 +53,7 @@ pub struct PendingWrite {
 
 impl PendingWrite {
     ghost use Rattle.tso_memory.specs.Buffer.{covers, size_of};
+    ghost use Rattle.tso_memory.specs.Memory.{number_from};
 
     /// Whether the write covers one of `size` bytes from an address on.
     pub(crate) fn meets(&self, a: u64, size: usize) -> bool
@@ -63,14 +66,33 @@ impl PendingWrite {
         }
     }
 
-    /// The byte at an address: this write's where it covers it, else `byte`.
-    pub(crate) fn byte(&self, x: u64, byte: u8) -> u8
-        ensures { result ≡ (if covers self.now x then byte_at (x - self.now.at) self.now.value else byte) }
+    /// The byte that the write brings to an address, where it covers it.
+    pub(crate) fn byte(&self, x: u64) -> Option<u8>
+        ensures { result ≡ (if covers self.now x then Some (byte_at (x - self.now.at) self.now.value) else None) }
     {
         if self.at <= x && x - self.at < self.width.size() as u64 {
-            self.value.to_le_bytes()[(x - self.at) as usize]
+            Some(self.value.to_le_bytes()[(x - self.at) as usize])
         } else {
-            byte
+            None
         }
+    }
+
+    /// The number from an address on, where the write covers all its bytes.
+    pub(crate) fn number(&self, a: u64, width: Width) -> Option<u64>
+        ensures all { IfSome result (λ _. (x : ℕ) → a ≤ x → x < a + size_of width → covers self.now x ≡ true) }
+        ensures number { IfSome result (λ v. v ≡ number_from (λ x. byte_at (x - self.now.at) self.now.value) (size_of width) a) }
+        ensures fits { IfSome result (λ v. v < 256 ^ size_of width) }
+    {
+        if a < self.at {
+            return None;
+        }
+        let place = a - self.at;
+        if place > 8 {
+            return None;
+        }
+        if place + width.size() as u64 > self.width.size() as u64 {
+            return None;
+        }
+        Some(word_from(&self.value.to_le_bytes(), place as usize, width))
     }
 }

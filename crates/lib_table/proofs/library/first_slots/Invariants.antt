@@ -1,5 +1,5 @@
 use Rattle.std.proofs.Common.{◌≡◌, ◌∷◌, replicate}
-use Rattle.lib_table.specs.declared.life.Life.TheVariants.{Live, Unborn}
+use Rattle.lib_table.specs.declared.life.Life.TheVariants.{Live}
 use Rattle.lib_table.specs.Library.{new_slot}
 use Rattle.lib_table.proofs.library.first_slots.Given as goal
 

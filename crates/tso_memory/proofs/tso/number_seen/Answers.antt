@@ -1,6 +1,6 @@
 use Rattle.std.proofs.Common.{ℕ, ◌<◌, get_or, sym, ap, subst, ◌∙◌, arith, zero-add}
 use Rattle.tso_memory.specs.Buffer.{seen, size_of}
-use Rattle.tso_memory.specs.Memory.{byte_of, number_from}
+use Rattle.tso_memory.specs.Memory.{byte_of}
 use Rattle.tso_memory.proofs.MemoryLemmas.{number_from-little}
 use Rattle.tso_memory.proofs.tso.number_seen.Goals as goal
 

@@ -1,6 +1,5 @@
 use Rattle.std.proofs.Common.{◌∷◌, [], ap, ◌∙◌}
 use Rattle.sync_more.specs.Once.{is_running}
-use Rattle.sync_more.specs.Rooms.{RoomsView}
 use Rattle.lib_table.specs.Library.{LibraryData}
 use Rattle.lib_table.proofs.SyncLemmas.{runs-when}
 use Rattle.lib_table.proofs.library.Library.is_running.Goals as goal

@@ -1,4 +1,4 @@
-use Rattle.std.proofs.Common.{◌^◌, ◌<◌, length, refl, ap, arith}
+use Rattle.std.proofs.Common.{length, refl, ap, arith}
 use Rattle.lib_table.specs.declared.life.Life.TheVariants.{Live}
 use Rattle.lib_table.proofs.SlotLemmas.{first-slots}
 use Rattle.lib_table.proofs.library.Library.make.Goals as goal

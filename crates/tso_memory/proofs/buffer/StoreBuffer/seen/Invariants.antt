@@ -1,6 +1,6 @@
-use Rattle.std.proofs.Common.{◌≡◌, drop}
+use Rattle.std.proofs.Common.{◌≡◌, ◌-◌, take}
 use Rattle.tso_memory.specs.Buffer.{seen}
 use Rattle.tso_memory.proofs.buffer.StoreBuffer.seen.Given as goal
 
-abbrev pub invariant-loop-i : goal.invariant-loop-i
-invariant-loop-i l = seen (drop l.i l.self-inside.ring.items) l.x l.found ≡ seen l.self-inside.ring.items l.x l.byte
+abbrev pub invariant-loop-k : goal.invariant-loop-k
+invariant-loop-k l = seen (take (l.reach - l.k) l.self-inside.ring.items) l.x l.byte ≡ seen (take l.reach l.self-inside.ring.items) l.x l.byte

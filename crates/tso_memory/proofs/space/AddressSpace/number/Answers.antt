@@ -3,7 +3,7 @@ use Rattle.std.proofs.lemmas.List.{take_rest}
 use Rattle.byteorder.specs.Endian.{little_number}
 use Rattle.tso_memory.specs.Piece.{PieceData}
 use Rattle.tso_memory.specs.Buffer.{size_of}
-use Rattle.tso_memory.specs.Memory.{byte_of, number_from}
+use Rattle.tso_memory.specs.Memory.{byte_of}
 use Rattle.tso_memory.proofs.RunLemmas.{IsRun, run_is, run_number}
 use Rattle.tso_memory.proofs.MemoryLemmas.{number_from-little}
 use Rattle.tso_memory.proofs.space.AddressSpace.number.Goals as goal

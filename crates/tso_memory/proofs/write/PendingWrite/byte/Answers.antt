@@ -1,4 +1,4 @@
-use Rattle.std.proofs.Common.{◌≡◌, ◌-◌, ◌≤◌, true, arith, ◌∙◌, zero-add, slice_index_or, ap}
+use Rattle.std.proofs.Common.{◌≡◌, ◌-◌, ◌≤◌, true, arith, ◌∙◌, zero-add, slice_index_or, Some, ap}
 use Rattle.std.proofs.lemmas.Bool.Decides.{nat_tests}
 use Rattle.std.specs.Int.{byte_at, bytes_low_first}
 use Rattle.tso_memory.specs.Buffer.{covers, size_of}
@@ -19,4 +19,4 @@ returns-then-x-self c =
     let x = c.args.x in
     let inside : covers p x ≡ true = grind (arith, nat_tests) in
     let byte : slice_index_or (bytes_low_first 0 8 p.value) (x - p.at) 0 ≡ byte_at (x - p.at) p.value = low_first_at 8 (x - p.at) 0 p.value (omega (arith, narrow p.width)) ∙ ap (λ j. byte_at j p.value) (zero-add (x - p.at)) in
-    rw (inside, c.to_le_bytes.ensures) byte
+    rw (inside, c.to_le_bytes.ensures) (ap Some byte)
