@@ -27,7 +27,7 @@ module _ {X : Type 0} (S : ℕ → X → Type 0) where
         let len = length-append xs (x ∷ []) in
         let is : k ≡ length xs = omega (arith, less, past, len) in
         subst (λ i. S i (slice_index_or (xs ++ x ∷ []) i d)) (sym is) (subst (S (length xs)) (sym (get_or-append_seam xs x [] d)) last)
-      )
+        )
   ]
 
   pub each_head : (n : ℕ) (x : X) (xs : List X) → EachFrom n (x ∷ xs) → S n x
@@ -63,10 +63,10 @@ first_or_same P all busy idle new is count did k d less = elim (cases_lt k (leng
       let old = ap (λ xs. slice_index_or xs k d) is ∙ get_or_append_left busy idle d k below in
       let now = get_or_append_left new idle d k (omega (arith, below, count)) in
       subst (λ x. P x (slice_index_or (new ++ idle) k d)) (sym old) (subst (P (slice_index_or busy k d)) (sym now) (did k d below))
-    )
+      )
   | inr past ↦ inr (
       let old = ap (λ xs. slice_index_or xs k d) is ∙ get_or-append_right busy idle k d past in
       let now = get_or-append_right new idle k d (omega (arith, past, count)) in
       now ∙ ap (λ n. slice_index_or idle (k - n) d) count ∙ sym old
-    )
+      )
 ]

@@ -117,7 +117,16 @@ fn run_locked<
         used: 0,
     };
     let (driver, came) = rounds(
-        rt, &mut workers, &lock, driver, &mut place, lifter, gate, rules, out, err,
+        rt,
+        &mut workers,
+        &lock,
+        driver,
+        &mut place,
+        lifter,
+        gate,
+        rules,
+        out,
+        err,
     );
     let hall = take_back(lock, workers, driver, passes_room, engine);
     let ran = end(&hall, came, place, out, err);

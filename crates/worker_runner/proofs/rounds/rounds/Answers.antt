@@ -93,14 +93,14 @@ loop-preserved g c = record {
   lock = c.watch-back.ensures.lock;
   number = c.watch-back.ensures.number;
   counted = (
-    let s = c.requires.start in
-    let m = c.loop.invariant.way s.0 s.1 in
-    let ws = c.loop.workers.items in
-    let vs = c.round.new.workers in
-    let count = c.round.ensures.count ∙ ap length c.as_mut_slice.ensures.value in
-    let took : (i : ℕ) (d : Worker g.row.N.Denot) → i < length ws → DidOne (lock_id c.args.lock.now) c.args.rules.turn g.N.Engine.count (slice_index_or ws i d) (slice_index_or vs i d) = subst (λ xs. (i : ℕ) (d : Worker g.row.N.Denot) → i < length xs → DidOne (lock_id c.args.lock.now) c.args.rules.turn g.N.Engine.count (slice_index_or xs i d) (slice_index_or vs i d)) c.as_mut_slice.ensures.value c.round.ensures.took in
-    subst (AreCounted g.N.Engine.count) (sym (same_slice c.loop.workers.len vs ws count (sym c.as_mut_slice.ensures.len ∙ ap length c.as_mut_slice.ensures.value))) (all_counted_on (lock_id c.args.lock.now) s.0 g.N.Engine.count c.args.rules.turn ws vs m.ready count took c.loop.invariant.counted)
-  );
+      let s = c.requires.start in
+      let m = c.loop.invariant.way s.0 s.1 in
+      let ws = c.loop.workers.items in
+      let vs = c.round.new.workers in
+      let count = c.round.ensures.count ∙ ap length c.as_mut_slice.ensures.value in
+      let took : (i : ℕ) (d : Worker g.row.N.Denot) → i < length ws → DidOne (lock_id c.args.lock.now) c.args.rules.turn g.N.Engine.count (slice_index_or ws i d) (slice_index_or vs i d) = subst (λ xs. (i : ℕ) (d : Worker g.row.N.Denot) → i < length xs → DidOne (lock_id c.args.lock.now) c.args.rules.turn g.N.Engine.count (slice_index_or xs i d) (slice_index_or vs i d)) c.as_mut_slice.ensures.value c.round.ensures.took in
+      subst (AreCounted g.N.Engine.count) (sym (same_slice c.loop.workers.len vs ws count (sym c.as_mut_slice.ensures.len ∙ ap length c.as_mut_slice.ensures.value))) (all_counted_on (lock_id c.args.lock.now) s.0 g.N.Engine.count c.args.rules.turn ws vs m.ready count took c.loop.invariant.counted)
+      );
   way = λ k s.
       let m = c.loop.invariant.way k s in
       let w = c.watch-back.ensures.watched m.hall m.saw m.place in
@@ -121,4 +121,3 @@ loop-preserved g c = record {
         second = e.1;
       };
 }
-

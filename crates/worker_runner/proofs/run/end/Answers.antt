@@ -35,10 +35,11 @@ returns-in-Stopped g c = λ h x y goes place e.
     let q : EndIs (ends.Stopped c.in-Stopped.first c.in-Stopped.second) h o r = subst (λ a. EndIs a h o r) c.in-Stopped.is e in
     let grew = goes_grew h n goes in
     let out = c.write_tail-out_failed in
-    let err = c.write_tail-err_failed in
-    (either c.in-Stopped.first c.in-Stopped.second out.result err.result q.0 out.ensures.failed err.ensures.failed,
-     subst (GainsBy out.result (written g.O.Sink.faults g.O.Sink.held x out.new.sink)) c.out1.ensures (out.ensures.wrote x (library_of h).out1 grew.first place.first (c.out1.ensures ∙ grew.first_is) q.1),
-     subst (GainsBy err.result (written g.E.Sink.faults g.E.Sink.held y err.new.sink)) c.out2.ensures (err.ensures.wrote y (library_of h).out2 grew.second place.second (c.out2.ensures ∙ grew.second_is) q.2))
+    let err = c.write_tail-err_failed in (
+      either c.in-Stopped.first c.in-Stopped.second out.result err.result q.0 out.ensures.failed err.ensures.failed,
+      subst (GainsBy out.result (written g.O.Sink.faults g.O.Sink.held x out.new.sink)) c.out1.ensures (out.ensures.wrote x (library_of h).out1 grew.first place.first (c.out1.ensures ∙ grew.first_is) q.1),
+      subst (GainsBy err.result (written g.E.Sink.faults g.E.Sink.held y err.new.sink)) c.out2.ensures (err.ensures.wrote y (library_of h).out2 grew.second place.second (c.out2.ensures ∙ grew.second_is) q.2),
+    )
 
 pub returns-in-Memory : goal.returns-in-Memory
 returns-in-Memory g c = λ h x y goes place e.

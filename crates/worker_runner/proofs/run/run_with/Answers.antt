@@ -6,18 +6,21 @@ use Rattle.worker_runner.proofs.Ending.{none_ran}
 use Rattle.worker_runner.proofs.run.run_with.Goals as goal
 
 pub run_locked-requires-clause-begins : goal.run_locked-requires-clause-begins
-run_locked-requires-clause-begins g c κs within = (c.args.hall, record {
-  none = c.requires.first;
-  rules = c.requires.rules;
-  few = c.requires.guests.0;
-  guests_are = c.requires.guests.1;
-  many = c.in-Ok-make.ensures.count.1;
-  passes_are = λ k d less. record {
-    lock = c.in-Ok-make.ensures.lock k d less;
-    number = (let n = c.in-Ok-make.ensures.in_order k d less in omega (arith, n));
-    saw = record { case = c.in-Ok-make.ensures.same_case k d less; journal = c.in-Ok-make.ensures.seen k d less; leads = c.facts.ensures.gated };
-  };
-})
+run_locked-requires-clause-begins g c κs within = (
+  c.args.hall,
+  record {
+    none = c.requires.first;
+    rules = c.requires.rules;
+    few = c.requires.guests.0;
+    guests_are = c.requires.guests.1;
+    many = c.in-Ok-make.ensures.count.1;
+    passes_are = λ k d less. record {
+      lock = c.in-Ok-make.ensures.lock k d less;
+      number = (let n = c.in-Ok-make.ensures.in_order k d less in omega (arith, n));
+      saw = record { case = c.in-Ok-make.ensures.same_case k d less; journal = c.in-Ok-make.ensures.seen k d less; leads = c.facts.ensures.gated };
+    };
+  },
+)
 
 pub returns-in-Ok-make-clause-case : goal.returns-in-Ok-make-clause-case
 returns-in-Ok-make-clause-case g c = c.run_locked.ensures.case c.args.hall (record {
