@@ -7,15 +7,17 @@ mod plans;
 mod programs;
 mod refusals;
 mod runs;
+mod workers;
 
 use mx_outside::{MemoryFiles, MemorySink, MemorySource};
 use programs::{Bytes, EXITS, bytes_of};
-use recompile_core::{Answer, OpenGate, PlainEngine, recompile};
+use recompile_core::{Answer, Gate, OpenGate, PlainEngine, recompile};
 use std::alloc::{AllocError, Global};
 use std::collections::BTreeMap;
 use std::process::Abort;
 use std::sync::Wait;
 use std::test::Fail;
+use std::thread::Threads;
 
 /// The calls that fail, by their numbers.
 #[derive(Clone, Copy)]
@@ -38,6 +40,8 @@ const NEVER: Failing = Failing {
 enum Journaled {
     /// There was no run.
     Never,
+    /// It has entries.
+    Some,
     /// Its bytes, in hexadecimal.
     Bytes(&'static str),
     /// So many entries and so many bytes.
@@ -144,7 +148,12 @@ fn sink_of(alloc: Global, failing: &[u64]) -> Result<MemorySink, AllocError> {
     Ok(MemorySink::make(alloc, Vec::from_slice(alloc, failing)?, 1))
 }
 
-fn call<R: Wait>(rt: &R, alloc: Global, row: &Row) -> Result<Left, Fail> {
+fn call<R: Threads + Wait + Sync, G: Gate + Sync>(
+    rt: &R,
+    alloc: Global,
+    row: &Row,
+    gate: &G,
+) -> Result<Left, Fail> {
     let words = words_of(alloc, row.words)?;
     let mut files = files_of(alloc, row)?;
     let mut input = input_of(alloc, row)?;
@@ -160,7 +169,7 @@ fn call<R: Wait>(rt: &R, alloc: Global, row: &Row) -> Result<Left, Fail> {
         &mut out,
         &mut err,
         &mut engine,
-        &OpenGate,
+        gate,
     );
     Ok(Left {
         answer,
@@ -178,6 +187,10 @@ fn assert_journal<R: Abort>(rt: &R, alloc: Global, row: &Row, answer: &Answer) -
         Journaled::Never => {
             assert!(rt; answer.case.is_none(), "{name}: a case");
             assert_eq!(rt; entries, 0, "{name}: entries");
+        }
+        Journaled::Some => {
+            assert!(rt; answer.case.is_some(), "{name}: no case");
+            assert!(rt; entries > 0, "{name}: no entries");
         }
         Journaled::Bytes(digits) => {
             assert!(rt; answer.case.is_some(), "{name}: no case");
@@ -249,7 +262,11 @@ fn assert_left<R: Abort>(rt: &R, alloc: Global, row: &Row, left: &Left) -> Resul
     assert_files(rt, alloc, row, left)
 }
 
-fn assert_row<R: Wait + Abort>(rt: &R, alloc: Global, row: &Row) -> Result<(), Fail> {
-    let left = call(rt, alloc, row)?;
+fn assert_row<R: Threads + Wait + Sync + Abort>(
+    rt: &R,
+    alloc: Global,
+    row: &Row,
+) -> Result<(), Fail> {
+    let left = call(rt, alloc, row, &OpenGate)?;
     assert_left(rt, alloc, row, &left)
 }

@@ -1,5 +1,5 @@
 -- What is answered, from what the parts of a call come to.
-use Rattle.std.proofs.Common.{◌≡◌, ℕ, inl, inr, [], Option, Some, None, refl, ap, ◌∙◌}
+use Rattle.std.proofs.Common.{◌≡◌, ℕ, inl, inr, [], Option, Some, refl, ap, ◌∙◌}
 use Rattle.std.specs.Prelude.{IfSome, IfNone, IsSome}
 use Rattle.endings.specs.declared.ending.Ending.{Ending}
 use Rattle.endings.specs.declared.ending.Ending.TheVariants.{Memory, Run, WriteFault}

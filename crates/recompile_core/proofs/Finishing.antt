@@ -1,6 +1,6 @@
 -- How a run's end is told, and what is left then.
 use Rattle.std.proofs.Common.{◌≡◌, ℕ, ◌+◌, inl, inr, Bool, true, false, List, [], ◌++◌, length, take, Option, Some, None, refl, sym, ap, ◌∙◌, subst, arith}
-use Rattle.std.specs.Prelude.{◌⊎◌, ◌||◌, IsSome, Result, Ok, Err}
+use Rattle.std.specs.Prelude.{◌⊎◌, IsSome, Result, Ok, Err}
 use Rattle.std.specs.Io.KnownBytes.{Appends}
 use Rattle.std.proofs.lemmas.List.{append-nil, append_assoc, length-append, take-append-le}
 use Rattle.std.proofs.Math.Seq.{take-append-add, take-length}
@@ -21,9 +21,9 @@ use Rattle.recompile_core.specs.declared.files.Unwritten.{Unwritten}
 use Rattle.recompile_core.specs.declared.files.Unwritten.TheVariants as unwritten
 use Rattle.recompile_core.specs.declared.run.Came.{Came}
 use Rattle.recompile_core.specs.declared.run.Came.TheVariants as came
-use Rattle.recompile_core.specs.After.{ErrAfter, FilesAfter, GainsOrFails, Leaves, OutAfter, Wrote, part_and_line, with_files}
-use Rattle.recompile_core.specs.Answer.{BeginsOrder, Ends, InOrder}
-use Rattle.recompile_core.specs.Runs.{AskedFiles, Breaks, CameTo, Closes, Finished, IsMade, Played, RunsTo, Told, WriteFailed, ending_by, has_failed, settled}
+use Rattle.recompile_core.specs.After.{ErrAfter, FilesAfter, GainsOrFails, Wrote, part_and_line, with_files}
+use Rattle.recompile_core.specs.Answer.{BeginsOrder, InOrder}
+use Rattle.recompile_core.specs.Runs.{AskedFiles, Breaks, Closes, Finished, IsMade, Played, RunsTo, Told, WriteFailed, ending_by, settled}
 use Rattle.recompile_core.specs.World.{FilesNow}
 use Rattle.recompile_core.proofs.Writing.{files_same}
 

@@ -1,13 +1,10 @@
 -- From a hall and what its run came to, to the run that was made.
-use Rattle.std.proofs.Common.{◌≡◌, ℕ, Bool, true, false, List, Option, Some, None, refl, sym, subst}
-use Rattle.std.specs.Prelude.{IfSome, IsSome}
+use Rattle.std.proofs.Common.{◌≡◌, ℕ, Bool, true, false, List, Option, Some, None, sym, subst}
+use Rattle.std.specs.Prelude.{IsSome}
 use Rattle.ir_syntax.specs.declared.block.Block.{Block}
-use Rattle.machine_model.specs.CaseData.{CaseData}
 use Rattle.machine_model.specs.Gated.{Leads, begin}
 use Rattle.machine_model.specs.Play.{play}
-use Rattle.machine_model.specs.State.{Machine}
 use Rattle.machine_model.specs.declared.ending.RunEnd.{RunEnd}
-use Rattle.journal_pack.specs.declared.entry.Entry.{Entry}
 use Rattle.hall_core.specs.Hall.{HallData, both, machine}
 use Rattle.thread_step.specs.declared.rules.Rules.{Rules}
 use Rattle.thread_step.specs.Turned.{serial_rules}
@@ -17,7 +14,6 @@ use Rattle.ir_runner.specs.Outputs.{Written, GainsBy, GainsSince}
 use Rattle.ir_runner.specs.Runs.{JournalIs, OutputsAre}
 use Rattle.worker_runner.specs.Ending.{WroteAll}
 use Rattle.recompile_core.specs.declared.run.Came.{Came}
-use Rattle.recompile_core.specs.declared.run.Came.TheVariants as came
 use Rattle.recompile_core.specs.Runs.{CameBy, CameTo, IsMade}
 
 no-true : false ≡ true → ⊥

@@ -1,6 +1,6 @@
 -- The files of a run: its misses, and what is written.
-use Rattle.std.proofs.Common.{◌≡◌, ℕ, inl, inr, true, false, cond, Ordering, Less, Equal, Greater, List, [], ◌∷◌, ◌++◌, Option, Some, None, refl, sym, ap, ◌∙◌, subst, arith}
-use Rattle.std.specs.Prelude.{◌⊎◌, All, IfSome, IfErr, Result, Ok, Err, OnOk, OnErr}
+use Rattle.std.proofs.Common.{◌≡◌, ℕ, inl, inr, false, cond, Ordering, Less, Equal, Greater, List, [], ◌∷◌, ◌++◌, Option, Some, None, refl, ap, ◌∙◌, subst}
+use Rattle.std.specs.Prelude.{◌⊎◌, All, IfSome, IfErr, Result, Ok, Err, OnOk}
 use Rattle.std.specs.FinMap.{get, get-insert, insert, nat_cmp-IsAntisymmetric, slice_cmp-IsAntisymmetric}
 use Rattle.std.specs.Ordering.{nat_cmp, is_eq}
 use Rattle.std.specs.Cmp.Lexicographic.{slice_cmp, nat_list_cmp_total}
@@ -12,8 +12,8 @@ use Rattle.journal_pack.specs.declared.entry.Entry.TheVariants.{Ev, Tick, Flush,
 use Rattle.journal_pack.specs.Entry.{HasSpelling}
 use Rattle.miss_report.specs.declared.miss.Miss.{Miss as MissData}
 use Rattle.miss_report.specs.Miss.{IsReportable}
-use Rattle.mx_outside.specs.Causes.{HasCause, Rose}
-use Rattle.mx_outside.specs.Names.{NameMap, KeepsOthers, ReplacesNamed}
+use Rattle.mx_outside.specs.Causes.{Rose}
+use Rattle.mx_outside.specs.Names.{NameMap, ReplacesNamed}
 use Rattle.journal_pack.specs.Packed.{packed}
 use Rattle.miss_report.specs.Report.{report}
 use Rattle.recompile_core.specs.declared.files.Unwritten.{Unwritten}

@@ -1,5 +1,5 @@
 -- The plans that are carried out.
-use Rattle.std.specs.Prelude.{◌≡◌, ℕ, ◌<◌, ◌≤◌, if◌then◌else◌, true, List, [], ◌∷◌, Option, Some, None, Result, Ok, Err}
+use Rattle.std.specs.Prelude.{◌≡◌, ◌<◌, ◌≤◌, if◌then◌else◌, true, ◌∷◌, Option, Some, None, Result, Ok, Err}
 use Rattle.words_line.specs.declared.plan.Plan.{Plan}
 use Rattle.words_line.specs.declared.plan.Plan.TheVariants.{Gen, Lift, Run}
 use Rattle.words_line.specs.declared.plan.WordsFault.{WordsFault}

@@ -1,5 +1,5 @@
 -- What a run comes to, with all that it wrote.
-use Rattle.std.proofs.Common.{◌≡◌, ℕ, ◌+◌, ◌≤◌, ◌⊎◌, inl, Bool, true, false, ◌||◌, List, [], ◌∷◌, ◌++◌, take, length, Option, Some, None, refl, sym, subst, ap, ◌∙◌, arith, append-nil, length-append}
+use Rattle.std.proofs.Common.{◌≡◌, ℕ, inl, Bool, true, false, ◌||◌, List, [], ◌∷◌, ◌++◌, Option, Some, None, refl, sym, subst, ap, ◌∙◌, arith, append-nil, length-append}
 use Rattle.std.specs.Prelude.{IsSome}
 use Rattle.std.specs.Io.KnownBytes.{Appends}
 use Rattle.std.proofs.lemmas.List.{take-append-le}
@@ -14,8 +14,8 @@ use Rattle.machine_model.proofs.Own.{made_of}
 use Rattle.guest_parts.specs.Running.{Rises}
 use Rattle.guest_entries.specs.Steps.{instruction_steps, steps_from}
 use Rattle.hall_core.specs.Hall.{both, machine}
-use Rattle.ir_runner.specs.Outputs.{Gains, GainsBy, HoldsPart, written}
-use Rattle.ir_runner.proofs.Sinks.{gains_nothing, gains_on, holds_on}
+use Rattle.ir_runner.specs.Outputs.{GainsBy, HoldsPart, written}
+use Rattle.ir_runner.proofs.Sinks.{gains_nothing, holds_on}
 use Rattle.thread_step.specs.Context.{HallOf}
 use Rattle.worker_runner.specs.Ending.{Goes}
 use Rattle.worker_runner.specs.Watched.{Grew, library_of}

@@ -1,5 +1,5 @@
 -- The passes of a run, gathered one by one.
-use Rattle.std.proofs.Common.{◌≡◌, ℕ, suc, ◌+◌, ◌<◌, ◌≤◌, ◌⊎◌, inl, inr, Bool, true, false, nat_lt, if◌then◌else◌, List, [], ◌∷◌, ◌++◌, length, slice_index_or, Option, Some, refl, sym, subst, ap, ◌∙◌, arith, length-append}
+use Rattle.std.proofs.Common.{◌≡◌, ℕ, suc, ◌+◌, ◌<◌, inl, inr, Bool, true, false, nat_lt, if◌then◌else◌, List, [], ◌∷◌, ◌++◌, length, slice_index_or, Some, refl, sym, subst, ap, ◌∙◌, arith, length-append}
 use Rattle.std.proofs.Math.Seq.{get_or-append_seam}
 use Rattle.std.proofs.lemmas.List.{get_or_append_left}
 use Rattle.std.proofs.lemmas.Option.{same_Some}
@@ -11,7 +11,6 @@ use Rattle.turn_lock.specs.Words.{lock_of, pass_case, pass_number, pass_seen}
 use Rattle.machine_model.specs.CaseData.{CaseData}
 use Rattle.machine_model.specs.Gated.{Leads, begin}
 use Rattle.hall_core.specs.Hall.{both}
-use Rattle.thread_step.specs.declared.context.Context.{Context}
 use Rattle.machine_model.specs.Step.{slot_in}
 use Rattle.guest_parts.specs.Running.{Rises, sum_of}
 use Rattle.journal_pack.specs.declared.entry.Entry.{Entry}

@@ -1,11 +1,11 @@
 -- A state after entries of the run: its outputs grew, and an ending stays.
-use Rattle.std.proofs.Common.{◌≡◌, ℕ, ◌+◌, ◌≤◌, List, ◌++◌, length, subst, ap, arith, ◌∙◌, length-append}
+use Rattle.std.proofs.Common.{◌≡◌, ◌≤◌, List, ◌++◌, length, subst, ap, arith, ◌∙◌, length-append}
 use Rattle.journal_pack.specs.declared.entry.Entry.{Entry}
 use Rattle.machine_model.specs.Gated.{Leads, begin}
 use Rattle.machine_model.proofs.Gates.{halfway, leads_same}
-use Rattle.hall_core.specs.Hall.{both, machine}
+use Rattle.hall_core.specs.Hall.{both}
 use Rattle.ir_runner.proofs.JournalOutputs.{leads_write}
-use Rattle.thread_step.specs.Context.{GoesOn, HallOf}
+use Rattle.thread_step.specs.Context.{HallOf}
 use Rattle.worker_runner.specs.declared.watch.Place.{Place}
 use Rattle.worker_runner.specs.Watched.{Grew, IsPlace, library_of}
 

@@ -1,5 +1,5 @@
 -- Rounds of workers: the contexts after a round, and what was written so far.
-use Rattle.std.proofs.Common.{◌≡◌, ℕ, ◌+◌, ◌-◌, ◌<◌, ◌≤◌, ◌⊎◌, inl, inr, ◌++◌, false, List, [], drop, length, slice_index_or, take, Option, Some, refl, sym, subst, ap, ◌∙◌, arith, append-nil}
+use Rattle.std.proofs.Common.{◌≡◌, ℕ, ◌+◌, ◌-◌, ◌<◌, ◌≤◌, ◌⊎◌, inl, inr, ◌++◌, false, List, [], drop, length, slice_index_or, take, Option, sym, subst, ap, ◌∙◌, arith, append-nil}
 use Rattle.std.specs.Prelude.{All}
 use Rattle.std.proofs.lemmas.List.{drop_all, take_all}
 use Rattle.atomic_table.specs.Seated.{TableId}
@@ -19,7 +19,7 @@ use Rattle.worker_runner.specs.declared.round.Worker.{Worker}
 use Rattle.worker_runner.specs.declared.watch.Over.{Over}
 use Rattle.worker_runner.specs.declared.watch.Over.TheVariants as over
 use Rattle.worker_runner.specs.declared.watch.Place.{Place}
-use Rattle.worker_runner.specs.Rounds.{AreHeld, AreReady, EndIs, HadMemory, IsHeldAt, IsReadyAt, Starts}
+use Rattle.worker_runner.specs.Rounds.{AreHeld, AreReady, EndIs, HadMemory, IsHeldAt, IsReadyAt}
 use Rattle.worker_runner.specs.Watched.{Grew, IsPlace, OverIs, library_of}
 use Rattle.guest_parts.specs.Running.{Rises}
 use Rattle.guest_steps.proofs.Striding.{rises_then}

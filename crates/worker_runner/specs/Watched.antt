@@ -1,5 +1,5 @@
 -- What the driver of a run finds and writes.
-use Rattle.std.specs.Prelude.{◌≡◌, ℕ, ◌≤◌, Bool, true, false, ◌||◌, List, [], ◌++◌, drop, length, IsSome}
+use Rattle.std.specs.Prelude.{◌≡◌, ℕ, Bool, true, false, ◌||◌, List, [], ◌++◌, drop, length, IsSome}
 use Rattle.lib_table.specs.Library.{LibraryData}
 use Rattle.turn_lock.specs.declared.pass.Pass.{Pass}
 use Rattle.hall_core.specs.Hall.{machine}

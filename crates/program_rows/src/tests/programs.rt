@@ -184,3 +184,38 @@ pub const UNLOCKS: Bytes = Bytes::Image(&[(0x40_1000, "bf00204000e8860f000089c7e
 
 /// jmp to itself
 pub const SPINS: Bytes = Bytes::Image(&[(0x40_1000, "ebfe")]);
+
+/// Four threads add 2, 3, 4 and 5 to two counters a thousand times each, to one with a locked add and to one under a mutex;
+/// then both are written.
+pub const COUNTERS: Bytes = Bytes::Image(&[
+    (
+        0x40_1000,
+        "31db488d3cdd0024400031f6ba00114000488b0cdd00214000e8120f0000ffc383fb040f85d9ffffff31db488b3cdd0024400031f6e8060f0000ffc383fb040f85e6ffffffbf01000000be00204000ba10000000e8b70e0000488b04250020400031ff483b042508204000400f95c7e88c0e0000",
+    ),
+    (
+        0x40_1100,
+        "4989fc41bde80300004c89e0f0480fc1042500204000bf10204000e8500e0000488b0425082040004c01e04889042508204000bf10204000e8530e000041ffcd0f85c3ffffff31c0c3",
+    ),
+    (0x40_2100, "0200000000000000"),
+    (0x40_2108, "0300000000000000"),
+    (0x40_2110, "0400000000000000"),
+    (0x40_2118, "0500000000000000"),
+]);
+
+/// Thread 0 creates 63 threads, each of which does a locked increment at 0x402000 five thousand times, and joins them.
+pub const INCREMENTS: Bytes = Bytes::Image(&[
+    (
+        0x40_1000,
+        "31db488d3cdd0024400031f6ba0011400031c9e8180f0000ffc383fb3f75e331db488b3cdd0024400031f6e8100f0000ffc383fb3f75ea31ffe9c20e0000",
+    ),
+    (0x40_1100, "b988130000f0ff042500204000ffc975f431c0c3"),
+]);
+
+/// Thread 0 creates a thread and loads from 0x402000 until it finds 1; the other one stores 1 there and jumps to itself.
+pub const WAITS_FOR_A_STORE: Bytes = Bytes::Image(&[
+    (
+        0x40_1000,
+        "bf0820400031f6ba0011400031c9e81d0f00008b04250020400083f80175f431ffe9da0e0000",
+    ),
+    (0x40_1100, "c704250020400001000000ebfe"),
+]);

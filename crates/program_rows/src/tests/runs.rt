@@ -1,8 +1,8 @@
 //! Runs that come to an ending of the guest program.
 
 use super::programs::{
-    Bytes, DIVIDES, ECHOES, EXITS, FENCED, LOCKS_TWICE, SPINS, STORES_AND_LOADS, TABLE, UNLOCKS,
-    WRITES, WRITES_BOTH, WRITES_ERR,
+    Bytes, COUNTERS, DIVIDES, ECHOES, EXITS, FENCED, LOCKS_TWICE, SPINS, STORES_AND_LOADS, TABLE,
+    UNLOCKS, WRITES, WRITES_BOTH, WRITES_ERR,
 };
 use super::{Journaled, RUN, Row, Written, assert_row};
 use std::test::Fail;
@@ -399,20 +399,7 @@ const MANY: &[Row] = &[
     // four threads add to a counter by lock xadd, and to another under a mutex, 1,000 times each
     Row {
         name: "four threads add to two counters",
-        file: Some(Bytes::Image(&[
-            (
-                0x40_1000,
-                "31db488d3cdd0024400031f6ba00114000488b0cdd00214000e8120f0000ffc383fb040f85d9ffffff31db488b3cdd0024400031f6e8060f0000ffc383fb040f85e6ffffffbf01000000be00204000ba10000000e8b70e0000488b04250020400031ff483b042508204000400f95c7e88c0e0000",
-            ),
-            (
-                0x40_1100,
-                "4989fc41bde80300004c89e0f0480fc1042500204000bf10204000e8500e0000488b0425082040004c01e04889042508204000bf10204000e8530e000041ffcd0f85c3ffffff31c0c3",
-            ),
-            (0x40_2100, "0200000000000000"),
-            (0x40_2108, "0300000000000000"),
-            (0x40_2110, "0400000000000000"),
-            (0x40_2118, "0500000000000000"),
-        ])),
+        file: Some(COUNTERS),
         status: 0,
         out: Bytes::Hex("b036000000000000b036000000000000"),
         err: "exit 0\n",

@@ -1,4 +1,4 @@
-use Rattle.std.proofs.Common.{refl, None, subst, List, ℕ}
+use Rattle.std.proofs.Common.{subst, List, ℕ}
 use Rattle.recompile_core.specs.World.{files_now}
 use Rattle.recompile_core.specs.After.{Wrote, with_file}
 use Rattle.recompile_core.proofs.Writing.{files_after, files_failed}

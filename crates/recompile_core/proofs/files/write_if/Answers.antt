@@ -1,5 +1,4 @@
-use Rattle.std.proofs.Common.{refl, sym, ap, subst, None, Some, List, ℕ, Option}
-use Rattle.mx_outside.specs.Names.{ReplacesNamed}
+use Rattle.std.proofs.Common.{refl, sym, subst, None, Some, List, ℕ, Option}
 use Rattle.recompile_core.specs.After.{OthersKept}
 use Rattle.recompile_core.specs.World.{files_now}
 use Rattle.recompile_core.proofs.Writing.{others_same, others_wrote}

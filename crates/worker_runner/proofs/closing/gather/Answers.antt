@@ -1,4 +1,4 @@
-use Rattle.std.proofs.Common.{◌≡◌, ◌≤◌, List, length, vec_capacity, refl, sym, subst, ap, ◌∙◌, arith}
+use Rattle.std.proofs.Common.{List, sym, subst, ◌∙◌, arith}
 use Rattle.worker_runner.specs.declared.round.Worker.{Worker}
 use Rattle.worker_runner.specs.Counts.{AreCounted}
 use Rattle.worker_runner.specs.Rounds.{AreHeld}

@@ -1,8 +1,8 @@
-use Rattle.std.proofs.Common.{◌≡◌, ◌<◌, length, Some, refl, sym, subst, ap, ◌∙◌, arith}
+use Rattle.std.proofs.Common.{◌≡◌, ◌<◌, length, Some, sym, subst, ◌∙◌, arith}
 use Rattle.turn_lock.specs.Lock.{lock_id}
 use Rattle.turn_lock.specs.Journal.{StartsWith}
 use Rattle.turn_lock.specs.Words.{pass_case, pass_seen}
-use Rattle.thread_step.specs.Context.{HallOf, case_in, journal_in}
+use Rattle.thread_step.specs.Context.{case_in, journal_in}
 use Rattle.guest_entries.specs.Steps.{instruction_steps}
 use Rattle.thread_step.specs.Counts.{slots_steps}
 use Rattle.thread_step.proofs.Counting.{rises_less}

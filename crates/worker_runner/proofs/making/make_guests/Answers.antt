@@ -1,4 +1,4 @@
-use Rattle.std.proofs.Common.{◌≡◌, ◌+◌, ◌-◌, ◌∷◌, [], arith, length, length-append, subst, sym, ap, ◌∙◌}
+use Rattle.std.proofs.Common.{◌∷◌, [], arith, length, length-append, subst, sym, ap}
 use Rattle.worker_runner.specs.Workers.{AreFirstGuests}
 use Rattle.worker_runner.proofs.Pairing.{guests_next, guests_none}
 use Rattle.worker_runner.proofs.making.make_guests.Goals as goal

@@ -1,5 +1,4 @@
-use Rattle.std.proofs.Common.{◌≡◌, ◌≤◌, length, vec_capacity, refl, sym, subst, ap, ◌∙◌, arith}
-use Rattle.thread_step.specs.Context.{HallOf}
+use Rattle.std.proofs.Common.{length, sym, subst, ap, ◌∙◌, arith}
 use Rattle.worker_runner.specs.Workers.{AreFirstPasses}
 use Rattle.worker_runner.proofs.Pairing.{mid_all, mid_next, mid_none, same_number}
 use Rattle.worker_runner.proofs.making.make_workers.Goals as goal

@@ -1,4 +1,4 @@
-use Rattle.std.proofs.Common.{◌≡◌, ℕ, ◌<◌, ◌⊎◌, length, slice_index_or, sym, subst, ap, ◌∙◌}
+use Rattle.std.proofs.Common.{ℕ, ◌<◌, length, slice_index_or, sym, subst, ap, ◌∙◌}
 use Rattle.turn_lock.specs.Lock.{lock_id}
 use Rattle.ir_runner.specs.Outputs.{Gains, written}
 use Rattle.ir_runner.proofs.Sinks.{gains_nothing}
@@ -9,7 +9,6 @@ use Rattle.std.specs.Prelude.{All}
 use Rattle.worker_runner.specs.Counts.{AreCounted}
 use Rattle.worker_runner.specs.Workers.{MayGo}
 use Rattle.worker_runner.proofs.Rounding.{DidOne, all_counted_on, all_go, all_held, all_held_on, all_ready_on, ends, same_slice, whole_part}
-use Rattle.worker_runner.proofs.rounds.rounds.Given as given
 use Rattle.worker_runner.proofs.rounds.rounds.Goals as goal
 
 pub loop-init : goal.loop-init

@@ -1,7 +1,6 @@
-use Rattle.std.proofs.Common.{◌≡◌, ◌≤◌, true, false, ◌||◌, List, ℕ, length, refl, sym, subst, ap, ◌∙◌}
+use Rattle.std.proofs.Common.{◌≤◌, List, ℕ, length, sym, subst, ◌∙◌}
 use Rattle.std.specs.Prelude.{IsSome}
 use Rattle.machine_model.specs.State.{Machine}
-use Rattle.hall_core.specs.Hall.{machine}
 use Rattle.ir_runner.specs.Outputs.{Gains, GainsBy, written}
 use Rattle.worker_runner.specs.declared.watch.Over.TheVariants as ends
 use Rattle.worker_runner.specs.Rounds.{EndIs}

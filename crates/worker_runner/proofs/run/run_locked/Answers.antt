@@ -1,4 +1,4 @@
-use Rattle.std.proofs.Common.{◌≡◌, List, ℕ, length, refl, sym, subst, ap, ◌∙◌}
+use Rattle.std.proofs.Common.{List, length, refl, sym, subst, ap, ◌∙◌}
 use Rattle.atomic_table.specs.Seated.{TableId}
 use Rattle.turn_lock.specs.declared.pass.Pass.{Pass}
 use Rattle.turn_lock.specs.Lock.{lock_id}
@@ -7,7 +7,7 @@ use Rattle.thread_step.specs.declared.rules.Rules.{Rules}
 use Rattle.thread_step.specs.Context.{HallOf}
 use Rattle.worker_runner.specs.declared.round.Worker.{Worker}
 use Rattle.worker_runner.specs.Rounds.{AreHeld, AreReady, Starts}
-use Rattle.worker_runner.specs.Workers.{AreFirstPasses, Begins, IsFirstPass}
+use Rattle.worker_runner.specs.Workers.{Begins, IsFirstPass}
 use Rattle.worker_runner.proofs.Gathering.{fresh_counted}
 use Rattle.worker_runner.proofs.Ending.{no_first, no_second}
 use Rattle.worker_runner.proofs.Pairing.{split_passes}

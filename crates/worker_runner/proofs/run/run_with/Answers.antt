@@ -1,6 +1,4 @@
-use Rattle.std.proofs.Common.{◌≡◌, ◌<◌, ◌+◌, length, refl, sym, subst, ap, ◌∙◌, arith}
-use Rattle.turn_lock.specs.Lock.{lock_id}
-use Rattle.worker_runner.specs.Workers.{Begins}
+use Rattle.std.proofs.Common.{ap, ◌∙◌, arith}
 use Rattle.thread_step.specs.Context.{HallOf}
 use Rattle.worker_runner.proofs.Ending.{none_ran}
 use Rattle.worker_runner.proofs.run.run_with.Goals as goal

@@ -1,4 +1,4 @@
-use Rattle.std.proofs.Common.{◌≡◌, ◌++◌, true, false, List, ℕ, drop, length, refl, sym, subst, ap, ◌∙◌}
+use Rattle.std.proofs.Common.{drop, subst}
 use Rattle.ir_runner.specs.Outputs.{GainsBy, written}
 use Rattle.ir_runner.proofs.Sinks.{gains_on}
 use Rattle.worker_runner.proofs.Ending.{part_more}
