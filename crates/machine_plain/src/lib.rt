@@ -17,9 +17,10 @@ mod requests;
 mod wants;
 
 pub use cores::PlainCore;
-pub use entries::after_private;
-pub use gated::gated_plain;
+pub use entries::{after_private, privately};
+pub use gate::{PlainGate, PlainLatest, PlainSpot, PlainStand, is_between};
+pub use gated::{PlainWalk, gated_plain};
 pub use machine::{PlainFault, PlainMachine};
 pub use play::play_plain;
-pub use reach::reach_plain;
+pub use reach::{has, reach_plain};
 pub use wants::next_want;
