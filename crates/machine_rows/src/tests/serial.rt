@@ -1,6 +1,7 @@
 //! The serial order: the journals of worked programs, as an independent model of the machine counts them.
 
-use crate::tests::programs::{BARRIER, ONCE, P1, P2, P6, P7, Program, SPIN, image};
+use crate::tests::plays::a_hundred_threads;
+use crate::tests::programs::{BARRIER, ONCE, P1, P2, P6, P7, P8, Program, SPIN, image};
 use Entry::{Dead, Ev, Flush, Grow, Miss, Over, Tick};
 use elf_image::Image;
 use guest_asm::{Piece, row_image};
@@ -523,5 +524,23 @@ fn a_thread_that_adds(rt: HostRuntime) -> Result<(), Fail> {
         out: &[3, 0, 0, 0, 0, 0, 0, 0, 3, 0, 0, 0, 0, 0, 0, 0],
     };
     assert!(rt; runs(rt.alloc(), adds(rt.alloc())?, rules, &told)?);
+    Ok(())
+}
+
+// P8: the slot of each thread is the next one's.
+#[test]
+fn a_hundred_threads_of_one_slot(rt: HostRuntime) -> Result<(), Fail> {
+    let alloc = rt.alloc();
+    let rules = Rules {
+        limit: 10_000,
+        ..usual(&[0x40_1000, 0x40_1002, 0x40_1015, 0x40_1024, 0x40_102b])
+    };
+    let told = Told {
+        journal: &a_hundred_threads(alloc)?,
+        ending: RunEnd::Exit(100),
+        steps: 1906,
+        out: &[],
+    };
+    assert!(rt; runs(alloc, image(alloc, &P8)?, rules, &told)?);
     Ok(())
 }
