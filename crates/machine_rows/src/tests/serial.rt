@@ -535,8 +535,9 @@ fn a_hundred_threads_of_one_slot(rt: HostRuntime) -> Result<(), Fail> {
         limit: 10_000,
         ..usual(&[0x40_1000, 0x40_1002, 0x40_1015, 0x40_1024, 0x40_102b])
     };
+    let journal = a_hundred_threads(alloc)?;
     let told = Told {
-        journal: &a_hundred_threads(alloc)?,
+        journal: &journal,
         ending: RunEnd::Exit(100),
         steps: 1906,
         out: &[],
