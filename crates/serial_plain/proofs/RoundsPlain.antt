@@ -1,11 +1,10 @@
 -- Rounds of the serial order.
-use Rattle.std.proofs.Common.{◌≡◌, ◌≢◌, ℕ, zero, suc, ◌+◌, ◌-◌, ◌*◌, ◌<◌, ◌≤◌, Bool, true, false, List, [], ◌∷◌, ◌++◌, Option, Some, None, refl, sym, ap, ◌∙◌, subst, arith, length, length-set, get_or, map, replicate, slice_set, ◌^◌, ◌==◌}
-use Rattle.std.specs.Prelude.{All, IsTrue, is_none, is_some, option_and_then, slice_index_or}
+use Rattle.std.proofs.Common.{◌≡◌, ◌≢◌, ℕ, zero, suc, ◌+◌, ◌-◌, ◌*◌, ◌<◌, ◌≤◌, Bool, true, false, List, [], ◌∷◌, ◌++◌, Option, Some, None, refl, sym, ap, ◌∙◌, subst, arith, length, length-set, get_or, map, slice_set, ◌^◌, ◌==◌}
+use Rattle.std.specs.Prelude.{All, is_some, option_and_then, slice_index_or}
 use Rattle.std.specs.List.{range_with_len}
 use Rattle.std.proofs.lemmas.List.{get_or-map, length-map, length-replicate, map-set}
 use Rattle.std.proofs.lemmas.List.Elements.{All-get_or, All-nil, All-replicate, All-set}
 use Rattle.std.proofs.lemmas.Option.{none-some, same_Some}
-use Rattle.basic_blocks.specs.Reach.{IsReach}
 use Rattle.journal_pack.specs.declared.entry.Entry.{Entry}
 use Rattle.journal_pack.specs.declared.entry.Entry.TheVariants.{Dead}
 use Rattle.machine_model.specs.declared.ending.RunEnd.{RunEnd}

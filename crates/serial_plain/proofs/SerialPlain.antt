@@ -1,15 +1,15 @@
 -- The serial order, function by function.
-use Rattle.std.proofs.Common.{◌≡◌, ◌≢◌, ℕ, zero, suc, ◌+◌, ◌-◌, ◌^◌, ◌<◌, ◌≤◌, Bool, true, false, cond, not, List, [], ◌∷◌, ◌++◌, Option, Some, None, refl, sym, ap, ◌∙◌, subst, arith, length, take, drop, get_or, add-one, ◌==◌}
-use Rattle.std.specs.Prelude.{All, IfErr, IfOk, IsErrAnd, IsTrue, Result, Ok, Err, option_and_then, option_map, nat_le, nat_lt, filter, is_none, is_some}
+use Rattle.std.proofs.Common.{◌≡◌, ◌≢◌, ℕ, zero, suc, ◌+◌, ◌-◌, ◌^◌, ◌<◌, ◌≤◌, Bool, true, false, cond, not, List, [], ◌∷◌, ◌++◌, Option, Some, None, refl, sym, ap, ◌∙◌, subst, arith, length, take, drop, get_or, ◌==◌}
+use Rattle.std.specs.Prelude.{IfErr, IfOk, IsErrAnd, Result, Ok, Err, option_and_then, nat_le, nat_lt}
 use Rattle.std.proofs.lemmas.Bool.Decides.{nat_tests}
 use Rattle.std.proofs.lemmas.List.{append-nil, drop_more, take_all}
 use Rattle.std.proofs.lemmas.List.Elements.{filter_more}
-use Rattle.std.proofs.lemmas.Option.{none-some, option_and_then_some, same_Some}
+use Rattle.std.proofs.lemmas.Option.{none-some, same_Some}
 use Rattle.address_space.specs.Slots.{slot_of}
 use Rattle.elf_image.specs.Layout.{ImageData}
 use Rattle.basic_blocks.specs.Reach.{is_among, IsReach}
 use Rattle.journal_pack.specs.declared.entry.Entry.{Entry}
-use Rattle.journal_pack.specs.declared.entry.Entry.TheVariants.{Ev, Tick, Flush, Wait, Miss, Grow, Over, Full}
+use Rattle.journal_pack.specs.declared.entry.Entry.TheVariants.{Ev, Flush, Wait, Miss, Grow}
 use Rattle.x86_model.specs.declared.cpu.Cpu.{Cpu}
 use Rattle.x86_model.specs.Want.{want}
 use Rattle.machine_model.specs.declared.ending.RunEnd.{RunEnd}
@@ -24,7 +24,6 @@ use Rattle.machine_model.proofs.Costs.{came}
 use Rattle.machine_model.proofs.Walks.{play_more}
 use Rattle.machine_plain.specs.declared.machine.PlainFault.{PlainFault}
 use Rattle.machine_plain.specs.Plain.{CanServe, FaultsAtStart, IsFull}
-use Rattle.machine_plain.specs.PlainGates.{led_to}
 use Rattle.serial_plain.specs.PlainSerial.{FaultsOnTheWay, IsPlayed, acts, evented, has_old}
 use Rattle.machine_plain.proofs.Closures.{one_reach}
 use Rattle.machine_plain.proofs.PlainPlay.{fault_at_start, fault_on_the_way, played_serves}

@@ -1,6 +1,6 @@
-use Rattle.std.proofs.Common.{◌≡◌, ◌+◌, ◌*◌, Some, None, refl, sym, ap, ◌∙◌, subst, arith}
+use Rattle.std.proofs.Common.{◌≡◌, Some, None, refl, sym, ap, ◌∙◌, subst, arith}
 use Rattle.machine_model.specs.CaseData.{CaseData}
-use Rattle.machine_model.specs.Serial.{AreReaches, Reaches, Rules, rounds, serial_by}
+use Rattle.machine_model.specs.Serial.{Rules}
 use Rattle.machine_plain.specs.PlainGates.{led_to}
 use Rattle.serial_plain.specs.PlainSerial.{Tells, run_as}
 use Rattle.serial_plain.specs.declared.serial.PlainSerial.{PlainSerial}

@@ -1,4 +1,4 @@
-use Rattle.std.proofs.Common.{◌≡◌, ◌≢◌, Some, None, true, false, length, refl, sym, ap, ◌∙◌, arith}
+use Rattle.std.proofs.Common.{◌≡◌, ◌≢◌, Some, true, false, length, refl, sym, ap, ◌∙◌, arith}
 use Rattle.machine_model.specs.Play.{walk}
 use Rattle.machine_model.specs.Serial.{AreReaches, Reaches, Rules, one_turn}
 use Rattle.machine_model.specs.State.{slots}

@@ -1,5 +1,5 @@
-use Rattle.std.proofs.Common.{◌≡◌, Some, None, [], sym, ap, ◌∙◌}
-use Rattle.machine_model.specs.Serial.{AreReaches, Reaches, Rules, point_of, run_after, turn, turn_in}
+use Rattle.std.proofs.Common.{◌≡◌, Some, [], sym, ap, ◌∙◌}
+use Rattle.machine_model.specs.Serial.{AreReaches, Reaches, Rules, point_of, turn, turn_in}
 use Rattle.machine_plain.specs.PlainGates.{led_to}
 use Rattle.serial_plain.specs.PlainSerial.{run_as, turn_as}
 use Rattle.serial_plain.proofs.RoundsPlain.{begun_in, begun_young, run_set, run_taken, slot_read, slot_set, turn_taken}

@@ -1,7 +1,7 @@
 use Rattle.std.proofs.Common.{◌≡◌, [], ◌∷◌, Some, sym, ap, ◌∙◌, subst}
 use Rattle.basic_blocks.specs.Reach.{IsReach}
 use Rattle.journal_pack.specs.declared.entry.Entry.TheVariants.{Grow}
-use Rattle.machine_model.specs.Serial.{grow_reach, make}
+use Rattle.machine_model.specs.Serial.{make}
 use Rattle.machine_plain.specs.PlainGates.{led_to}
 use Rattle.serial_plain.specs.PlainSerial.{turn_as}
 use Rattle.serial_plain.proofs.SerialPlain.{ok_then, reach_told, target_grown}
