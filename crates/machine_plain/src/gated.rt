@@ -48,8 +48,7 @@ impl PlainWalk {
         Ok(PlainWalk { machine, gate })
     }
 
-    /// Goes over an entry; answers whether it is a step and may come, but for the rule of growth. `Crowded` comes only
-    /// where the entry's thread has 64 waiting writes or more.
+    /// Whether an entry is a step and may come, but for growth; goes over it. `Crowded`: 64 writes of its thread wait.
     #[tactic(auto, using(crate::proofs::GatedPlain::advanced, crate::proofs::GatedPlain::no_step))]
     pub fn advance(&mut self, alloc: Global, case: &Case, entry: Entry) -> Result<bool, PlainFault>
         requires limit { case.now.limit < 2 ^ 63 }

@@ -2,8 +2,7 @@
 //!
 //! `play_plain` is `play`: the machine after a journal. `gated_plain` is `IsGated`: whether a journal is played and runs
 //! only what is grown; a reach is computed as the least set. `next_want` is `want`: what a thread does next. Their
-//! contracts cite the definitions of `machine_model`, `basic_blocks` and `x86_model`, so a test that compares a worked run
-//! with them compares it with the definitions.
+//! contracts cite the machine's definitions, so tests compare worked runs with these. `serial_plain` stands on them.
 #![tactic(auto)]
 
 mod cores;

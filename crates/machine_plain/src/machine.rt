@@ -8,7 +8,7 @@ ghost use Rattle.tso_memory.specs.declared.access.Access.TheVariants as access;
 ghost use Rattle.tso_memory.specs.Tso.{is_none_waiting};
 ghost use Rattle.machine_plain.specs.Plain.{FaultsAtStart, stepped_to};
 ghost use Rattle.journal_pack.specs.Entry.{thread_of};
-ghost use Rattle.machine_model.specs.State.{entering, is_live, list_at, no_core, start, slots, thread_in};
+ghost use Rattle.machine_model.specs.State.{entering, is_live, list_at, no_core, start, slots};
 ghost use Rattle.machine_model.specs.Step.{cpu_at, ended, exchanged, faulted, flushed, is_in_use, later, lives, loaded, newborn, refused, slot_in, stored, with_cpu};
 
 use crate::cores::PlainCore;
@@ -52,8 +52,8 @@ impl From<AllocError> for PlainFault {
 #[derive(Drop)]
 pub struct PlainMachine {
     pub(crate) cores: Vec<PlainCore>,
-    pub(crate) memory: Tso,
-    pub(crate) library: Library,
+    pub memory: Tso,
+    pub library: Library,
     steps: u64,
     pub(crate) ending: Option<RunEnd>,
 }
@@ -198,21 +198,6 @@ impl PlainMachine {
         ensures { result ≡ is_live self.now t }
     {
         self.library.is_live(t)
-    }
-
-    /// The thread that lives in a slot, if one does.
-    pub fn thread_in(&self, slot: u32) -> Option<u32>
-        ensures { result ≡ thread_in self.now slot }
-    {
-        self.library.thread_in(slot)
-    }
-
-    /// How many writes of the thread in slot `t` wait.
-    pub fn waiting(&self, t: u32) -> u32
-        requires { t < 64 }
-        ensures { result ≡ length (list_at self.now t) }
-    {
-        self.memory.waiting(t)
     }
 
     // Whether the thread that an entry names lives, if it names one.

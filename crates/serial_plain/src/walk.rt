@@ -36,7 +36,7 @@ pub(crate) fn is_live(walk: &PlainWalk, t: u32) -> bool
 pub(crate) fn thread_in(walk: &PlainWalk, slot: u32) -> Option<u32>
     ensures { result ≡ thread_in walk.now.machine slot }
 {
-    walk.machine.thread_in(slot)
+    walk.machine.library.thread_in(slot)
 }
 
 // Whether thread `t` with these registers stands at a call that waits for another thread.
@@ -51,7 +51,7 @@ pub(crate) fn waiting(walk: &PlainWalk, slot: u32) -> u64
     requires { slot < 64 }
     ensures { result ≡ length (list_at walk.now.machine slot) }
 {
-    u64::from(walk.machine.waiting(slot))
+    u64::from(walk.machine.memory.waiting(slot))
 }
 
 // Where a slot's thread stands.
