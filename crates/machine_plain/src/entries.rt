@@ -26,8 +26,8 @@ use miss_report::Miss;
 use std::alloc::Global;
 use x86_model::{Cpu, Want};
 
-// The registers after a private step.
-pub(crate) fn privately(want: Want) -> Option<Cpu>
+/// The registers after a private step.
+pub fn privately(want: Want) -> Option<Cpu>
     ensures { result ≡ privately want }
 {
     match want {
@@ -52,8 +52,8 @@ pub fn after_private(image: &Image, k: u32, cpu: Cpu) -> Option<Cpu>
 }
 
 impl PlainMachine {
-    // Whether thread `t` with these registers stands at a call that waits for another thread.
-    fn waits_at(&self, image: &Image, t: u32, cpu: Cpu) -> bool
+    /// Whether thread `t` with these registers stands at a call that waits for another thread.
+    pub fn waits_at(&self, image: &Image, t: u32, cpu: Cpu) -> bool
         ensures { result ≡ waits_at image.now self.now t cpu }
     {
         match next_want(image, cpu) {

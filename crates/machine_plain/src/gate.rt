@@ -24,7 +24,7 @@ const MOST_GROWN: u64 = 65536;
 
 /// What a thread's entries were lately.
 #[derive(Clone, Copy, Debug)]
-pub(crate) enum PlainLatest {
+pub enum PlainLatest {
     /// The latest entry other than `Flush` and `Grow` is no miss.
     Other,
     /// It is a miss of this target.
@@ -35,9 +35,9 @@ pub(crate) enum PlainLatest {
 
 /// A thread's position: the addresses that are left of its block, and what its entries were lately.
 #[derive(Drop)]
-pub(crate) struct PlainSpot {
-    left: Vec<u64>,
-    latest: PlainLatest,
+pub struct PlainSpot {
+    pub left: Vec<u64>,
+    pub latest: PlainLatest,
 }
 
 impl Model for PlainSpot {
@@ -51,9 +51,9 @@ impl Model for PlainSpot {
 
 /// What a thread works on, and the addresses that are left of its block.
 #[derive(Drop)]
-pub(crate) struct PlainStand {
-    cpu: Cpu,
-    left: Vec<u64>,
+pub struct PlainStand {
+    pub cpu: Cpu,
+    pub left: Vec<u64>,
 }
 
 impl Model for PlainStand {
@@ -66,8 +66,8 @@ impl Model for PlainStand {
 
 /// The places that are grown, the latest first, and the position of each thread.
 #[derive(Drop)]
-pub(crate) struct PlainGate {
-    grown: Vec<u64>,
+pub struct PlainGate {
+    pub grown: Vec<u64>,
     spots: Vec<PlainSpot>,
 }
 
@@ -108,9 +108,9 @@ fn may_grow(grown: &[u64], a: u64) -> bool
     !has(grown, a) && (grown.len() as u64) < MOST_GROWN
 }
 
-// Whether a thread is between blocks.
+/// Whether a thread is between blocks, by the addresses that are left of its block.
 #[tactic(auto, using(crate::proofs::GateWalk::between_is))]
-fn is_between(left: &[u64]) -> bool
+pub fn is_between(left: &[u64]) -> bool
     ensures { result ≡ is_between left.now }
 {
     left.is_empty()
@@ -254,9 +254,9 @@ impl PlainStand {
         }
     }
 
-    // One private step; answers whether it may be made.
+    /// One private step; answers whether it may be made.
     #[tactic(auto, using(crate::proofs::GateWalk::step_made, crate::proofs::GateWalk::step_not_entered, crate::proofs::GateWalk::step_not_private))]
-    fn step(&mut self, alloc: Global, image: &Image, grown: &[u64]) -> Result<bool, AllocError>
+    pub fn step(&mut self, alloc: Global, image: &Image, grown: &[u64]) -> Result<bool, AllocError>
         ensures { IfOk result (λ b. led_to b self.new ≡ gated_step image.now grown.now self.old) }
     {
         if !self.enter(alloc, image, grown)? {
@@ -386,8 +386,8 @@ impl PlainGate {
         Ok(PlainGate { grown, spots })
     }
 
-    // The position of the thread in slot `t`.
-    fn spot(&self, alloc: Global, t: u32) -> Result<PlainSpot, AllocError>
+    /// The position of the thread in slot `t`; one that isn't there is between blocks.
+    pub fn spot(&self, alloc: Global, t: u32) -> Result<PlainSpot, AllocError>
         ensures { IfOk result (λ spot. spot ≡ spot_at self.now t) }
     {
         if (t as usize) < self.spots.len() {

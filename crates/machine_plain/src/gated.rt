@@ -16,9 +16,9 @@ use std::marker::Model;
 
 /// The machine and the gate side by side.
 #[derive(Drop)]
-struct PlainWalk {
-    machine: PlainMachine,
-    gate: PlainGate,
+pub struct PlainWalk {
+    pub machine: PlainMachine,
+    pub gate: PlainGate,
 }
 
 impl Model for PlainWalk {
@@ -37,9 +37,9 @@ impl Model for PlainWalk {
 }
 
 impl PlainWalk {
-    // Before the first entry.
+    /// Before the first entry. `Lay` comes where the image and the arguments can't be laid out.
     #[tactic(auto, unfolding(machine_model::specs::Gated::begin))]
-    fn start(alloc: Global, case: &Case) -> Result<PlainWalk, PlainFault>
+    pub fn start(alloc: Global, case: &Case) -> Result<PlainWalk, PlainFault>
         ensures walk { IfOk result (λ w. w ≡ begin case.now) }
         ensures fault { IfErr result (FaultsAtStart case.now) }
     {
@@ -48,9 +48,9 @@ impl PlainWalk {
         Ok(PlainWalk { machine, gate })
     }
 
-    // Goes over an entry; answers whether it is a step and may come, but for the rule of growth.
+    /// Whether an entry is a step and may come, but for growth; goes over it. `Crowded`: 64 writes of its thread wait.
     #[tactic(auto, using(crate::proofs::GatedPlain::advanced, crate::proofs::GatedPlain::no_step))]
-    fn advance(&mut self, alloc: Global, case: &Case, entry: Entry) -> Result<bool, PlainFault>
+    pub fn advance(&mut self, alloc: Global, case: &Case, entry: Entry) -> Result<bool, PlainFault>
         requires limit { case.now.limit < 2 ^ 63 }
         requires serves { self.old.machine.ending ≡ None → (t : ℕ) → is_live self.old.machine t ≡ true → CanServe self.old.machine t }
         ensures advanced { IfOk result (λ b. led_to b self.new ≡ advance case.now self.old entry) }

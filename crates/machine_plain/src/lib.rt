@@ -2,8 +2,7 @@
 //!
 //! `play_plain` is `play`: the machine after a journal. `gated_plain` is `IsGated`: whether a journal is played and runs
 //! only what is grown; a reach is computed as the least set. `next_want` is `want`: what a thread does next. Their
-//! contracts cite the definitions of `machine_model`, `basic_blocks` and `x86_model`, so a test that compares a worked run
-//! with them compares it with the definitions.
+//! contracts cite the machine's definitions, so tests compare worked runs with these. `serial_plain` stands on them.
 #![tactic(auto)]
 
 mod cores;
@@ -17,9 +16,10 @@ mod requests;
 mod wants;
 
 pub use cores::PlainCore;
-pub use entries::after_private;
-pub use gated::gated_plain;
+pub use entries::{after_private, privately};
+pub use gate::{PlainGate, PlainLatest, PlainSpot, PlainStand, is_between};
+pub use gated::{PlainWalk, gated_plain};
 pub use machine::{PlainFault, PlainMachine};
 pub use play::play_plain;
-pub use reach::reach_plain;
+pub use reach::{has, reach_plain};
 pub use wants::next_want;

@@ -52,8 +52,8 @@ impl From<AllocError> for PlainFault {
 #[derive(Drop)]
 pub struct PlainMachine {
     pub(crate) cores: Vec<PlainCore>,
-    pub(crate) memory: Tso,
-    pub(crate) library: Library,
+    pub memory: Tso,
+    pub library: Library,
     steps: u64,
     pub(crate) ending: Option<RunEnd>,
 }
@@ -230,7 +230,7 @@ impl PlainMachine {
     }
 
     /// Whether fewer steps were made than the limit is, with `k` more.
-    pub(crate) fn is_below(&self, limit: u64, k: u32) -> bool
+    pub fn is_below(&self, limit: u64, k: u32) -> bool
         ensures { result ≡ nat_lt (self.now.steps + k) limit }
     {
         u64::from(k) < limit.saturating_sub(self.steps)

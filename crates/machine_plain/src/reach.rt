@@ -13,7 +13,7 @@ use std::alloc::{AllocError, Global};
 use std::collections::BTreeSet;
 
 /// Whether the place is there.
-pub(crate) fn has(places: &[u64], a: u64) -> bool
+pub fn has(places: &[u64], a: u64) -> bool
     ensures { result ≡ is_among places.now a }
 {
     places.iter().any(|x| *x == a)

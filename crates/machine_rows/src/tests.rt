@@ -5,6 +5,7 @@ mod gated;
 mod places;
 mod plays;
 mod programs;
+mod serial;
 
 use guest_asm::{Piece, row_image};
 use journal_pack::Entry::{self, Ev, Flush, Over, Tick};

@@ -266,10 +266,8 @@ fn push_thread(journal: &mut Vec<Entry>, t: u32) -> Result<(), Fail> {
     Ok(())
 }
 
-// A hundred threads one after another, all in slot 1: the last has number 6,337 and id 6,338, and a status of 194.
-#[test]
-fn plays_a_hundred_threads_of_one_slot(rt: HostRuntime) -> Result<(), Fail> {
-    let alloc = rt.alloc();
+/// The journal of P8: a hundred threads one after another, all in slot 1.
+pub fn a_hundred_threads(alloc: Global) -> Result<Vec<Entry>, Fail> {
     let mut journal = Vec::new(alloc);
     for i in 0..100u32 {
         journal.push(Ev(0, if i == 0 { 5 } else { 7 }))?;
@@ -277,6 +275,14 @@ fn plays_a_hundred_threads_of_one_slot(rt: HostRuntime) -> Result<(), Fail> {
     }
     journal.push(Ev(0, 3))?;
     journal.push(Ev(0, 2))?;
+    Ok(journal)
+}
+
+// The last of the hundred threads has number 6,337 and id 6,338, and a status of 194.
+#[test]
+fn plays_a_hundred_threads_of_one_slot(rt: HostRuntime) -> Result<(), Fail> {
+    let alloc = rt.alloc();
+    let journal = a_hundred_threads(alloc)?;
     for (program, ending) in [(&P8, RunEnd::Exit(100)), (&P8_LAST, RunEnd::Exit(6_338))] {
         let machine = play(alloc, program, 10_000, false, &journal)?.ok_or("it is a run")?;
         assert!(rt; machine.ending() == Some(ending));

@@ -1,0 +1,2 @@
+-- What the slow program of the serial order keeps.
+pub mod PlainSerial
