@@ -91,7 +91,7 @@ end_frames core ask (called_as.Probe frame place) e h = absurd h.1
 end_frames core ask called_as.Stay e h = e
 end_frames core ask called_as.Over e h = e
 
-entered_of : (c : CaseData) (b n : Both) (t k : ℕ) (d : Stand) (spot : Spot) → IsMade c b (Ev t k) d n.machine spot → (left : List ℕ) × IsEntered c b d left
+pub entered_of : (c : CaseData) (b n : Both) (t k : ℕ) (d : Stand) (spot : Spot) → IsMade c b (Ev t k) d n.machine spot → (left : List ℕ) × IsEntered c b d left
 entered_of c b n t k d spot h = option_and_then_some (λ l. Some (spot_with (onward (cpu_at n.machine (slot_of t)).mid l) Other)) (entered c.image b.gate.grown d.cpu.rip d.left) spot h.last (λ l p _. (l, p))
 
 module _ (c : CaseData) (b n : Both) (t k : ℕ) (d : Stand) (spot : Spot) (whole : IsWhole b) (p : advance c b (Ev t k) ≡ Some n) (is : IsMade c b (Ev t k) d n.machine spot) (h : Served c b.machine n.machine t k d.cpu) where

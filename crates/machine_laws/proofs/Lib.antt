@@ -6,3 +6,4 @@ pub mod Leaving
 pub mod Turns
 pub mod Goes
 pub mod Spans
+pub mod Onces

@@ -2,3 +2,4 @@
 pub mod Lives
 pub mod Others
 pub mod Cases
+pub mod Controls
