@@ -12,7 +12,7 @@ use Rattle.thread_step.specs.declared.guest.Guest.{Guest}
 use Rattle.thread_step.specs.declared.rules.Rules.{Rules}
 use Rattle.thread_step.specs.declared.rules.Turned.{Turned}
 use Rattle.thread_step.specs.declared.rules.Turned.TheVariants.{Ran, Waiting, Ended, Idle, Memory}
-use Rattle.thread_step.specs.Context.{HallOf, Saw}
+use Rattle.thread_step.specs.Context.{HallOf, IsContext, Saw, TookTurn, context_slot}
 use Rattle.thread_step.specs.Guest.{IsLeft, IsReady}
 use Rattle.thread_step.specs.Turned.{AreRules}
 use Rattle.worker_runner.specs.declared.round.Worker.{Worker}
@@ -27,7 +27,7 @@ use Rattle.thread_step.proofs.Counting.{rises_less}
 use Rattle.thread_step.specs.Context.{context_steps}
 use Rattle.thread_step.specs.Counts.{slot_steps}
 use Rattle.worker_runner.specs.Counts.{AreCounted, CountsIts, HasCounted}
-use Rattle.worker_runner.specs.Workers.{MayGo, TookIts}
+use Rattle.worker_runner.specs.Workers.{CameBack, MayGo, TookIts}
 
 -- ---- contexts
 
@@ -38,31 +38,58 @@ ready_again Ended h g had left = left
 ready_again Idle h g had left = left
 ready_again (Memory e) h g had left = absurd had
 
-ready_on : (key : TableId) (c : CaseData) (k most : ℕ) (old new : Context) (a : Turned) → IsReadyAt key c k old → TookIts key most old new a → HadMemory a → IsReadyAt key c k new
-ready_on key c k most old new a x took had =
+ready_on : (key : TableId) (c : CaseData) (k : ℕ) (old new : Context) (a : Turned) → IsReadyAt key c k old → TookIts key old new a → HadMemory a → IsReadyAt key c k new
+ready_on key c k old new a x took had =
     let t = took x.hall x.context in
-    let b = t.turned.1 in
     record {
-      hall = b.hall;
-      context = record { pass = t.pass; there = t.there; holds = record { lock = t.lock; number = t.number; saw = b.saw; ready = ready_again a b.hall new.guest had b.left } };
-      case = b.further.case ∙ x.case;
+      hall = t.hall;
+      context = record { pass = t.pass; there = t.there; holds = record { lock = t.lock; number = t.number; saw = t.saw; ready = ready_again a t.hall new.guest had t.left } };
+      case = t.case ∙ x.case;
       its = t.slot ∙ x.its;
     }
 
-held_on : (key : TableId) (c : CaseData) (k most : ℕ) (old new : Context) (a : Turned) → IsReadyAt key c k old → TookIts key most old new a → IsHeldAt key c k new
-held_on key c k most old new a x took =
+held_on : (key : TableId) (c : CaseData) (k : ℕ) (old new : Context) (a : Turned) → IsReadyAt key c k old → TookIts key old new a → IsHeldAt key c k new
+held_on key c k old new a x took =
     let t = took x.hall x.context in
+    record { pass = t.pass; there = t.there; lock = t.lock; number = t.number ∙ t.slot ∙ x.its; hall = t.hall; saw = t.saw; case = t.case ∙ x.case }
+
+-- one turn
+pub one_turn : (key : TableId) (most : ℕ) (old new : Context) (a : Turned) → ((h : HallOf) → IsContext key old h → TookTurn a key most old new h) → TookIts key old new a
+one_turn key most old new a took h ctx =
+    let t = took h ctx in
     let b = t.turned.1 in
-    record { pass = t.pass; there = t.there; lock = t.lock; number = t.number ∙ t.slot ∙ x.its; hall = b.hall; saw = b.saw; case = b.further.case ∙ x.case }
+    record { pass = t.pass; there = t.there; lock = t.lock; number = t.number; slot = t.slot; hall = b.hall; saw = b.saw; case = b.further.case; left = b.left }
+
+-- after a turn that ended by its budget another may follow
+pub context_again : (key : TableId) (old new : Context) (h : HallOf) → (t : CameBack Ran key old new h) → IsContext key new t.hall
+context_again key old new h t = record { pass = t.pass; there = t.there; holds = record { lock = t.lock; number = t.number; saw = t.saw; ready = t.left } }
+
+pub took_then : (key : TableId) (old mid new : Context) (a : Turned) → TookIts key old mid Ran → TookIts key mid new a → TookIts key old new a
+took_then key old mid new a first then h ctx =
+    let m = first h ctx in
+    let t = then m.hall (context_again key old mid h m) in
+    record { pass = t.pass; there = t.there; lock = t.lock; number = t.number; slot = t.slot ∙ m.slot; hall = t.hall; saw = t.saw; case = t.case ∙ m.case; left = t.left }
+
+pub counts_then : (key : TableId) (a b e : ℕ) (old mid new : Context) → TookIts key old mid Ran → CountsIts key a b old mid → CountsIts key b e mid new → CountsIts key a e old new
+counts_then key a b e old mid new first p q h n pass ctx there saw =
+    let m = first h ctx in
+    let one = p h m.hall m.pass ctx m.there m.saw in
+    let two = subst (λ s. Rises b e ((slot_steps n.case s n.journal + context_steps new) - (slot_steps m.hall.case s m.hall.journal + context_steps mid))) m.slot (q m.hall n pass (context_again key old mid h m) there saw) in
+    rises_then a b e (slot_steps h.case (context_slot old) h.journal + context_steps old) (slot_steps m.hall.case (context_slot old) m.hall.journal + context_steps mid) (slot_steps n.case (context_slot old) n.journal + context_steps new) one two
+
+pub may_go_on : (key : TableId) (r : Rules) (old new : Context) → TookIts key old new Ran → MayGo key r old → MayGo key r new
+may_go_on key r old new took go =
+    let t = took go.0 go.1 in
+    (t.hall, context_again key old new go.0 t, subst (λ z. AreRules z r) (sym t.case) go.2)
 
 held_ready : (key : TableId) (c : CaseData) (k : ℕ) (ctx : Context) → IsReadyAt key c k ctx → IsHeldAt key c k ctx
 held_ready key c k ctx x =
     let q = x.context in
     record { pass = q.pass; there = q.there; lock = q.holds.lock; number = q.holds.number ∙ x.its; hall = x.hall; saw = q.holds.saw; case = x.case }
 
--- a worker took its turn, or nothing was done with it
-abbrev pub DidOne : {N : Type 0} → TableId → ℕ → (N → ℕ) → Worker N → Worker N → Type 0
-DidOne key most count old new = (TookIts key most old.ctx new.ctx new.turned × CountsIts key (count old.engine) (count new.engine) old.ctx new.ctx) ⊎ (new ≡ old)
+-- a worker took its turns, or nothing was done with it
+abbrev pub DidOne : {N : Type 0} → TableId → (N → ℕ) → Worker N → Worker N → Type 0
+DidOne key count old new = (TookIts key old.ctx new.ctx new.turned × CountsIts key (count old.engine) (count new.engine) old.ctx new.ctx) ⊎ (new ≡ old)
 
 counted_on : (key : TableId) (c : CaseData) (k a b : ℕ) (old new : Context) → IsReadyAt key c k old → HasCounted a k old → CountsIts key a b old new → HasCounted b k new
 counted_on key c k a b old new x had its = λ n p there saw.
@@ -79,14 +106,14 @@ module _ {N : Type 0} (key : TableId) (c : CaseData) where
   pub all_held : (ws : List (Worker N)) → AreReady key c ws → AreHeld key c ws
   all_held ws ready = (ready.0, λ k d less. held_ready key c k (slice_index_or ws k d).ctx (ready.1 k d less))
 
-  module _ (count_of : N → ℕ) (most : ℕ) (ws vs : List (Worker N)) (ready : AreReady key c ws) (count : length vs ≡ length ws) (took : (k : ℕ) (d : Worker N) → k < length ws → DidOne key most count_of (slice_index_or ws k d) (slice_index_or vs k d)) where
+  module _ (count_of : N → ℕ) (ws vs : List (Worker N)) (ready : AreReady key c ws) (count : length vs ≡ length ws) (took : (k : ℕ) (d : Worker N) → k < length ws → DidOne key count_of (slice_index_or ws k d) (slice_index_or vs k d)) where
     pub all_ready_on : ((k : ℕ) (d : Worker N) → k < length vs → HadMemory (slice_index_or vs k d).turned) → AreReady key c vs
     all_ready_on had = (
       count ∙ ready.0,
       λ k d less.
           let before = subst (λ n. k < n) count less in
           elim (took k d before) [
-            | inl did ↦ ready_on key c k most (slice_index_or ws k d).ctx (slice_index_or vs k d).ctx (slice_index_or vs k d).turned (ready.1 k d before) did.0 (had k d less)
+            | inl did ↦ ready_on key c k (slice_index_or ws k d).ctx (slice_index_or vs k d).ctx (slice_index_or vs k d).turned (ready.1 k d before) did.0 (had k d less)
             | inr same ↦ subst (λ (w : Worker N). IsReadyAt key c k w.ctx) (sym same) (ready.1 k d before)
           ],
     )
@@ -97,7 +124,7 @@ module _ {N : Type 0} (key : TableId) (c : CaseData) where
       λ k d less.
           let before = subst (λ n. k < n) count less in
           elim (took k d before) [
-            | inl did ↦ held_on key c k most (slice_index_or ws k d).ctx (slice_index_or vs k d).ctx (slice_index_or vs k d).turned (ready.1 k d before) did.0
+            | inl did ↦ held_on key c k (slice_index_or ws k d).ctx (slice_index_or vs k d).ctx (slice_index_or vs k d).turned (ready.1 k d before) did.0
             | inr same ↦ held_ready key c k (slice_index_or vs k d).ctx (subst (λ (w : Worker N). IsReadyAt key c k w.ctx) (sym same) (ready.1 k d before))
           ],
     )

@@ -7,8 +7,8 @@ use Rattle.thread_step.specs.declared.context.Context.{Context}
 use Rattle.thread_step.specs.declared.guest.Guest.{Guest}
 use Rattle.thread_step.specs.declared.rules.Rules.{Rules}
 use Rattle.thread_step.specs.declared.rules.Turned.{Turned}
-use Rattle.thread_step.specs.Context.{HallOf, IsContext, Saw, TookTurn, context_pass, context_slot, context_steps}
-use Rattle.thread_step.specs.Guest.{IsReady, guest_slot, private_steps}
+use Rattle.thread_step.specs.Context.{HallOf, IsContext, Saw, context_pass, context_slot, context_steps}
+use Rattle.thread_step.specs.Guest.{IsLeft, IsReady, guest_slot, private_steps}
 use Rattle.thread_step.specs.Turned.{AreRules}
 use Rattle.worker_runner.specs.declared.round.Worker.{Worker}
 
@@ -16,9 +16,21 @@ use Rattle.worker_runner.specs.declared.round.Worker.{Worker}
 abbrev pub MayGo : TableId → Rules → Context → Type 0
 MayGo key rules ctx = (h : HallOf) × IsContext key ctx h × AreRules h.case rules
 
--- it took one, in any state in which it was ready
-abbrev pub TookIts : TableId → ℕ → Context → Context → Turned → Type 0
-TookIts key most old new answer = (h : HallOf) → IsContext key old h → TookTurn answer key most old new h
+-- the context after turns: its guest is as the last of them left it in the state that the pass saw last
+pub record CameBack (a : Turned) (key : TableId) (old new : Context) (h : HallOf) : Type 0 where
+  pub pass : Pass HallOf
+  pub there : context_pass new ≡ Some pass
+  pub lock : lock_of pass ≡ key
+  pub number : pass_number pass ≡ context_slot new
+  pub slot : context_slot new ≡ context_slot old
+  pub hall : HallOf
+  pub saw : Saw pass hall
+  pub case : hall.case ≡ h.case
+  pub left : IsLeft a hall new.guest
+
+-- it took turns, from any state in which it was ready
+abbrev pub TookIts : TableId → Context → Context → Turned → Type 0
+TookIts key old new answer = (h : HallOf) → IsContext key old h → CameBack answer key old new h
 
 -- ---- before the first round
 

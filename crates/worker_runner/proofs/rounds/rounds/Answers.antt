@@ -61,8 +61,8 @@ returns-then-lacks_memory-clause-held g c = λ k s.
     let ws = c.loop.workers.items in
     let vs = c.round.new.workers in
     let count = c.round.ensures.count ∙ ap length c.as_mut_slice.ensures.value in
-    let took : (i : ℕ) (d : Worker g.row.N.Denot) → i < length ws → DidOne (lock_id c.args.lock.now) c.args.rules.turn g.N.Engine.count (slice_index_or ws i d) (slice_index_or vs i d) = subst (λ xs. (i : ℕ) (d : Worker g.row.N.Denot) → i < length xs → DidOne (lock_id c.args.lock.now) c.args.rules.turn g.N.Engine.count (slice_index_or xs i d) (slice_index_or vs i d)) c.as_mut_slice.ensures.value c.round.ensures.took in
-    subst (λ xs. AreHeld (lock_id c.args.lock.now) k xs) (sym (same_slice c.loop.workers.len vs ws count (sym c.as_mut_slice.ensures.len ∙ ap length c.as_mut_slice.ensures.value))) (all_held_on (lock_id c.args.lock.now) k g.N.Engine.count c.args.rules.turn ws vs m.ready count took)
+    let took : (i : ℕ) (d : Worker g.row.N.Denot) → i < length ws → DidOne (lock_id c.args.lock.now) g.N.Engine.count (slice_index_or ws i d) (slice_index_or vs i d) = subst (λ xs. (i : ℕ) (d : Worker g.row.N.Denot) → i < length xs → DidOne (lock_id c.args.lock.now) g.N.Engine.count (slice_index_or xs i d) (slice_index_or vs i d)) c.as_mut_slice.ensures.value c.round.ensures.took in
+    subst (λ xs. AreHeld (lock_id c.args.lock.now) k xs) (sym (same_slice c.loop.workers.len vs ws count (sym c.as_mut_slice.ensures.len ∙ ap length c.as_mut_slice.ensures.value))) (all_held_on (lock_id c.args.lock.now) k g.N.Engine.count ws vs m.ready count took)
 
 pub returns-then-lacks_memory-clause-counted : goal.returns-then-lacks_memory-clause-counted
 returns-then-lacks_memory-clause-counted g c =
@@ -71,8 +71,8 @@ returns-then-lacks_memory-clause-counted g c =
     let ws = c.loop.workers.items in
     let vs = c.round.new.workers in
     let count = c.round.ensures.count ∙ ap length c.as_mut_slice.ensures.value in
-    let took : (i : ℕ) (d : Worker g.row.N.Denot) → i < length ws → DidOne (lock_id c.args.lock.now) c.args.rules.turn g.N.Engine.count (slice_index_or ws i d) (slice_index_or vs i d) = subst (λ xs. (i : ℕ) (d : Worker g.row.N.Denot) → i < length xs → DidOne (lock_id c.args.lock.now) c.args.rules.turn g.N.Engine.count (slice_index_or xs i d) (slice_index_or vs i d)) c.as_mut_slice.ensures.value c.round.ensures.took in
-    subst (AreCounted g.N.Engine.count) (sym (same_slice c.loop.workers.len vs ws count (sym c.as_mut_slice.ensures.len ∙ ap length c.as_mut_slice.ensures.value))) (all_counted_on (lock_id c.args.lock.now) s.0 g.N.Engine.count c.args.rules.turn ws vs m.ready count took c.loop.invariant.counted)
+    let took : (i : ℕ) (d : Worker g.row.N.Denot) → i < length ws → DidOne (lock_id c.args.lock.now) g.N.Engine.count (slice_index_or ws i d) (slice_index_or vs i d) = subst (λ xs. (i : ℕ) (d : Worker g.row.N.Denot) → i < length xs → DidOne (lock_id c.args.lock.now) g.N.Engine.count (slice_index_or xs i d) (slice_index_or vs i d)) c.as_mut_slice.ensures.value c.round.ensures.took in
+    subst (AreCounted g.N.Engine.count) (sym (same_slice c.loop.workers.len vs ws count (sym c.as_mut_slice.ensures.len ∙ ap length c.as_mut_slice.ensures.value))) (all_counted_on (lock_id c.args.lock.now) s.0 g.N.Engine.count ws vs m.ready count took c.loop.invariant.counted)
 
 pub returns-then-lacks_memory-clause-came : goal.returns-then-lacks_memory-clause-came
 returns-then-lacks_memory-clause-came g c = λ k s.
@@ -97,8 +97,8 @@ loop-preserved g c = record {
       let ws = c.loop.workers.items in
       let vs = c.round.new.workers in
       let count = c.round.ensures.count ∙ ap length c.as_mut_slice.ensures.value in
-      let took : (i : ℕ) (d : Worker g.row.N.Denot) → i < length ws → DidOne (lock_id c.args.lock.now) c.args.rules.turn g.N.Engine.count (slice_index_or ws i d) (slice_index_or vs i d) = subst (λ xs. (i : ℕ) (d : Worker g.row.N.Denot) → i < length xs → DidOne (lock_id c.args.lock.now) c.args.rules.turn g.N.Engine.count (slice_index_or xs i d) (slice_index_or vs i d)) c.as_mut_slice.ensures.value c.round.ensures.took in
-      subst (AreCounted g.N.Engine.count) (sym (same_slice c.loop.workers.len vs ws count (sym c.as_mut_slice.ensures.len ∙ ap length c.as_mut_slice.ensures.value))) (all_counted_on (lock_id c.args.lock.now) s.0 g.N.Engine.count c.args.rules.turn ws vs m.ready count took c.loop.invariant.counted)
+      let took : (i : ℕ) (d : Worker g.row.N.Denot) → i < length ws → DidOne (lock_id c.args.lock.now) g.N.Engine.count (slice_index_or ws i d) (slice_index_or vs i d) = subst (λ xs. (i : ℕ) (d : Worker g.row.N.Denot) → i < length xs → DidOne (lock_id c.args.lock.now) g.N.Engine.count (slice_index_or xs i d) (slice_index_or vs i d)) c.as_mut_slice.ensures.value c.round.ensures.took in
+      subst (AreCounted g.N.Engine.count) (sym (same_slice c.loop.workers.len vs ws count (sym c.as_mut_slice.ensures.len ∙ ap length c.as_mut_slice.ensures.value))) (all_counted_on (lock_id c.args.lock.now) s.0 g.N.Engine.count ws vs m.ready count took c.loop.invariant.counted)
       );
   way = λ k s.
       let m = c.loop.invariant.way k s in
@@ -108,14 +108,14 @@ loop-preserved g c = record {
       let vs = c.round.new.workers in
       let count = c.round.ensures.count ∙ ap length c.as_mut_slice.ensures.value in
       let is = same_slice c.loop.workers.len vs ws count (sym c.as_mut_slice.ensures.len ∙ ap length c.as_mut_slice.ensures.value) in
-      let took : (i : ℕ) (d : Worker g.row.N.Denot) → i < length ws → DidOne (lock_id c.args.lock.now) c.args.rules.turn g.N.Engine.count (slice_index_or ws i d) (slice_index_or vs i d) = subst (λ xs. (i : ℕ) (d : Worker g.row.N.Denot) → i < length xs → DidOne (lock_id c.args.lock.now) c.args.rules.turn g.N.Engine.count (slice_index_or xs i d) (slice_index_or vs i d)) c.as_mut_slice.ensures.value c.round.ensures.took in
+      let took : (i : ℕ) (d : Worker g.row.N.Denot) → i < length ws → DidOne (lock_id c.args.lock.now) g.N.Engine.count (slice_index_or ws i d) (slice_index_or vs i d) = subst (λ xs. (i : ℕ) (d : Worker g.row.N.Denot) → i < length xs → DidOne (lock_id c.args.lock.now) g.N.Engine.count (slice_index_or xs i d) (slice_index_or vs i d)) c.as_mut_slice.ensures.value c.round.ensures.took in
       let had : (i : ℕ) (d : Worker g.row.N.Denot) → i < length vs → HadMemory (slice_index_or vs i d).turned = subst (λ xs. (i : ℕ) (d : Worker g.row.N.Denot) → i < length xs → HadMemory (slice_index_or xs i d).turned) (c.as_slice.ensures.value ∙ is) (c.lacks_memory.ensures c.if-lacks_memory.false) in
       record {
         hall = w.hall;
         saw = w.saw;
         case = w.case ∙ m.case;
         place = w.place;
-        ready = subst (λ xs. AreReady (lock_id c.args.lock.now) k xs) (sym is) (all_ready_on (lock_id c.args.lock.now) k g.N.Engine.count c.args.rules.turn ws vs m.ready count took had);
+        ready = subst (λ xs. AreReady (lock_id c.args.lock.now) k xs) (sym is) (all_ready_on (lock_id c.args.lock.now) k g.N.Engine.count ws vs m.ready count took had);
         first = e.0;
         second = e.1;
       };
