@@ -7,22 +7,21 @@ ghost use Rattle.thread_step.specs.Context.{HallOf, IsContext, Saw, context_pass
 ghost use Rattle.thread_step.specs.Guest.{IsReady, guest_slot, private_steps};
 
 use crate::guest::Guest;
-use hall_core::Hall;
-use ir_syntax::Block;
+use crate::shared::SharedHall;
 use turn_lock::Pass;
 
 /// The guest of a slot, and a pass of the slot's number to the shared state, which is with the turn while one runs.
 #[derive(Drop)]
 pub struct Context {
     pub(crate) guest: Guest,
-    pub(crate) pass: Option<Pass<Hall<Block>>>,
+    pub(crate) pass: Option<Pass<SharedHall>>,
     pub(crate) made: u64,
 }
 
 impl Context {
     /// A guest with a pass of its slot's number. In a state that the pass saw, in which the guest is ready for a turn, the
     /// context is.
-    pub fn make(guest: Guest, pass: Pass<Hall<Block>>) -> Context
+    pub fn make(guest: Guest, pass: Pass<SharedHall>) -> Context
         requires number { pass_number pass ≡ guest_slot guest }
         ensures context { (h : HallOf) → Saw pass h → IsReady h guest → IsContext (lock_of pass) result h }
         ensures slot { context_slot result ≡ guest_slot guest }
@@ -37,7 +36,7 @@ impl Context {
     }
 
     /// Gives the pass back.
-    pub fn into_pass(self) -> Pass<Hall<Block>>
+    pub fn into_pass(self) -> Pass<SharedHall>
         requires there { (p : PassData HallOf) × (context_pass self ≡ Some p) }
         ensures pass { context_pass self ≡ Some result }
     {

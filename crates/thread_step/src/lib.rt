@@ -13,6 +13,7 @@ mod context;
 mod entries;
 mod guest;
 mod rules;
+mod shared;
 mod worker;
 
 pub use alone::turn_alone;
@@ -21,4 +22,5 @@ pub use guest::Guest;
 pub use guest_entries::Lifter;
 pub use guest_parts::{Engine, PlainEngine};
 pub use rules::{Gate, OpenGate, Rules, Turned};
+pub use shared::SharedHall;
 pub use worker::turn;

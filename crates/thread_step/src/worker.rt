@@ -21,6 +21,7 @@ use crate::context::Context;
 use crate::entries::{entry, has_ended, make_place};
 use crate::guest::Guest;
 use crate::rules::{Gate, Rules, Turned};
+use crate::shared::SharedHall;
 use guest_entries::Lifter;
 use guest_entries::settle::settle;
 use guest_parts::Engine;
@@ -60,9 +61,9 @@ pub(crate) enum Stepped {
 /// Takes the shared state. Its journal begins with what the pass saw, and what came after is of other slots.
 pub(crate) fn take<R: Wait>(
     rt: &R,
-    lock: &Turn<Hall<Block>>,
-    pass: Pass<Hall<Block>>,
-) -> Held<Hall<Block>>
+    lock: &Turn<SharedHall>,
+    pass: Pass<SharedHall>,
+) -> Held<SharedHall>
     requires { lock_of pass ≡ lock_id lock.now }
     ensures lock { held_lock result ≡ lock_id lock.now }
     ensures number { held_number result ≡ pass_number pass }
@@ -70,12 +71,12 @@ pub(crate) fn take<R: Wait>(
     ensures goes { (h : HallOf) → Saw pass h → GoesOn (pass_number pass) h (held_value result) }
 {
     let mut held = lock.take(rt, pass);
-    held.value().facts();
+    held.value().hall().facts();
     held
 }
 
 /// Gives the shared state back, with entries of the slot.
-pub(crate) fn give(lock: &Turn<Hall<Block>>, held: Held<Hall<Block>>) -> Pass<Hall<Block>>
+pub(crate) fn give(lock: &Turn<SharedHall>, held: Held<SharedHall>) -> Pass<SharedHall>
     requires lock { held_lock held ≡ lock_id lock.now }
     requires wrote { (h : HallOf) × IsTaken held h × Wrote (held_number held) h (held_value held) }
     ensures lock { lock_of result ≡ lock_id lock.now }
@@ -83,7 +84,7 @@ pub(crate) fn give(lock: &Turn<Hall<Block>>, held: Held<Hall<Block>>) -> Pass<Ha
     ensures saw { Saw result (held_value held) }
 {
     let mut held = held;
-    held.value().facts();
+    held.value().hall().facts();
     lock.give(held)
 }
 
@@ -163,10 +164,10 @@ fn go_ahead<N: Engine>(guest: &mut Guest, engine: &mut N)
 // The first look of a turn.
 fn look<R: Wait>(
     rt: &R,
-    lock: &Turn<Hall<Block>>,
-    pass: Pass<Hall<Block>>,
+    lock: &Turn<SharedHall>,
+    pass: Pass<SharedHall>,
     guest: &mut Guest,
-) -> (Pass<Hall<Block>>, Looked)
+) -> (Pass<SharedHall>, Looked)
     requires holds { (h : HallOf) × HoldsIn (lock_id lock.now) pass guest.old h }
     ensures lock { lock_of result.0 ≡ lock_id lock.now }
     ensures number { pass_number result.0 ≡ pass_number pass }
@@ -175,22 +176,22 @@ fn look<R: Wait>(
     ensures looked { (h : HallOf) → HoldsIn (lock_id lock.now) pass guest.old h → LookedIn result.1 result.0 guest.old guest.new h }
 {
     let mut held = take(rt, lock, pass);
-    let looked = look_at(guest, held.value());
+    let looked = look_at(guest, held.value().hall());
     (give(lock, held), looked)
 }
 
 // Private steps, and the thread's next entry of the budget.
 fn step<R: Wait, L: Lifter, N: Engine, G: Gate>(
     rt: &R,
-    lock: &Turn<Hall<Block>>,
-    pass: Pass<Hall<Block>>,
+    lock: &Turn<SharedHall>,
+    pass: Pass<SharedHall>,
     guest: &mut Guest,
     t: u32,
     lifter: &L,
     engine: &mut N,
     gate: &G,
     nth: u64,
-) -> (Pass<Hall<Block>>, Stepped)
+) -> (Pass<SharedHall>, Stepped)
     requires works { (h : HallOf) × WorksIn (lock_id lock.now) pass t guest.old h }
     ensures lock { lock_of result.0 ≡ lock_id lock.now }
     ensures number { pass_number result.0 ≡ pass_number pass }
@@ -202,15 +203,15 @@ fn step<R: Wait, L: Lifter, N: Engine, G: Gate>(
     go_ahead(guest, engine);
     gate.pass(t, nth);
     let mut held = take(rt, lock, pass);
-    let stepped = step_in(guest, held.value(), t, lifter, engine);
+    let stepped = step_in(guest, held.value().hall(), t, lifter, engine);
     (give(lock, held), stepped)
 }
 
 // At most so many entries of the budget.
 fn steps<R: Wait, L: Lifter, N: Engine, G: Gate>(
     rt: &R,
-    lock: &Turn<Hall<Block>>,
-    pass: Pass<Hall<Block>>,
+    lock: &Turn<SharedHall>,
+    pass: Pass<SharedHall>,
     guest: &mut Guest,
     t: u32,
     lifter: &L,
@@ -218,7 +219,7 @@ fn steps<R: Wait, L: Lifter, N: Engine, G: Gate>(
     gate: &G,
     made: &mut u64,
     budget: u32,
-) -> (Pass<Hall<Block>>, Stepped)
+) -> (Pass<SharedHall>, Stepped)
     requires works { (h : HallOf) × WorksIn (lock_id lock.now) pass t guest.old h }
     ensures lock { lock_of result.0 ≡ lock_id lock.now }
     ensures number { pass_number result.0 ≡ pass_number pass }
@@ -268,12 +269,12 @@ fn grow_older(guest: &mut Guest, hall: &mut Hall<Block>, t: u32, hold: u32) -> T
 // The same, in the shared state's turn.
 fn finish<R: Wait>(
     rt: &R,
-    lock: &Turn<Hall<Block>>,
-    pass: Pass<Hall<Block>>,
+    lock: &Turn<SharedHall>,
+    pass: Pass<SharedHall>,
     guest: &mut Guest,
     t: u32,
     hold: u32,
-) -> (Pass<Hall<Block>>, Turned)
+) -> (Pass<SharedHall>, Turned)
     requires hold { hold ≤ 255 }
     requires works { (h : HallOf) × WorksIn (lock_id lock.now) pass t guest.old h }
     ensures lock { lock_of result.0 ≡ lock_id lock.now }
@@ -285,15 +286,15 @@ fn finish<R: Wait>(
     ensures lives { result.1 ≢ turned.Idle }
 {
     let mut held = take(rt, lock, pass);
-    let turned = grow_older(guest, held.value(), t, hold);
+    let turned = grow_older(guest, held.value().hall(), t, hold);
     (give(lock, held), turned)
 }
 
 // The turn of a thread that lives in the slot.
 fn run<R: Wait, L: Lifter, N: Engine, G: Gate>(
     rt: &R,
-    lock: &Turn<Hall<Block>>,
-    pass: Pass<Hall<Block>>,
+    lock: &Turn<SharedHall>,
+    pass: Pass<SharedHall>,
     guest: &mut Guest,
     t: u32,
     lifter: &L,
@@ -301,7 +302,7 @@ fn run<R: Wait, L: Lifter, N: Engine, G: Gate>(
     gate: &G,
     made: &mut u64,
     rules: Rules,
-) -> (Pass<Hall<Block>>, Turned)
+) -> (Pass<SharedHall>, Turned)
     requires hold { rules.hold ≤ 255 }
     requires works { (h : HallOf) × WorksIn (lock_id lock.now) pass t guest.old h }
     ensures lock { lock_of result.0 ≡ lock_id lock.now }
@@ -325,15 +326,15 @@ fn run<R: Wait, L: Lifter, N: Engine, G: Gate>(
 // The turn of the slot's thread, with the context's pass.
 fn turn_with<R: Wait, L: Lifter, N: Engine, G: Gate>(
     rt: &R,
-    lock: &Turn<Hall<Block>>,
-    pass: Pass<Hall<Block>>,
+    lock: &Turn<SharedHall>,
+    pass: Pass<SharedHall>,
     guest: &mut Guest,
     lifter: &L,
     engine: &mut N,
     gate: &G,
     made: &mut u64,
     rules: Rules,
-) -> (Pass<Hall<Block>>, Turned)
+) -> (Pass<SharedHall>, Turned)
     requires hold { rules.hold ≤ 255 }
     requires holds { (h : HallOf) × HoldsIn (lock_id lock.now) pass guest.old h }
     ensures lock { lock_of result.0 ≡ lock_id lock.now }
@@ -365,7 +366,7 @@ fn turn_with<R: Wait, L: Lifter, N: Engine, G: Gate>(
 pub fn turn<R: Wait, L: Lifter, N: Engine, G: Gate>(
     rt: &R,
     ctx: &mut Context,
-    lock: &Turn<Hall<Block>>,
+    lock: &Turn<SharedHall>,
     lifter: &L,
     engine: &mut N,
     gate: &G,

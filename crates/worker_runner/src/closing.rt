@@ -17,16 +17,16 @@ ghost use Rattle.worker_runner.specs.Rounds.{AreHeld};
 use crate::round::Worker;
 use hall_core::Hall;
 use ir_syntax::Block;
-use thread_step::{Context, Engine};
+use thread_step::{Context, Engine, SharedHall};
 use turn_lock::{Pass, Turn};
 
 // The passes of all workers, and the driver's, in the order of their numbers; the engines' counts go to one engine.
 fn gather<N: Engine + Drop>(
     workers: Vec<Worker<N>>,
-    last: Pass<Hall<Block>>,
-    room: Vec<Pass<Hall<Block>>>,
+    last: Pass<SharedHall>,
+    room: Vec<Pass<SharedHall>>,
     engine: &mut N,
-) -> Vec<Pass<Hall<Block>>>
+) -> Vec<Pass<SharedHall>>
     requires room { (room.items ≡ []) × (65 ≤ vec_capacity room) }
     requires held { (key : TableId) × (c : CaseData) × AreHeld key c workers.items }
     ensures merged { (key : TableId) (c : CaseData) (j : List Entry) → AreHeld key c workers.items → AreCounted N.count workers.items → AreKept c j result.items → Rises (N.count engine.old) (N.count engine.new) (slots_steps c 64 j) }
@@ -51,10 +51,10 @@ fn gather<N: Engine + Drop>(
 
 /// Takes the shared state out of its lock, once all workers are back. Its journal begins with what the driver's pass saw.
 pub(crate) fn take_back<N: Engine + Drop>(
-    lock: Turn<Hall<Block>>,
+    lock: Turn<SharedHall>,
     workers: Vec<Worker<N>>,
-    last: Pass<Hall<Block>>,
-    room: Vec<Pass<Hall<Block>>>,
+    last: Pass<SharedHall>,
+    room: Vec<Pass<SharedHall>>,
     engine: &mut N,
 ) -> Hall<Block>
     requires count { pass_count lock ≡ 65 }
@@ -65,7 +65,8 @@ pub(crate) fn take_back<N: Engine + Drop>(
     ensures count { AreCounted N.count workers.items → Rises (N.count engine.old) (N.count engine.new) (instruction_steps result.case result.journal) }
 {
     let passes = gather(workers, last, room, engine);
-    let hall = lock.close(passes);
+    let shared = lock.close(passes);
+    let hall = shared.into_hall();
     hall.facts();
     hall
 }

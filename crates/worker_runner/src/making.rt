@@ -14,7 +14,7 @@ use address_space::SLOTS;
 use hall_core::Hall;
 use ir_syntax::Block;
 use std::alloc::{AllocError, Global};
-use thread_step::{Context, Engine, Guest, Turned};
+use thread_step::{Context, Engine, Guest, SharedHall, Turned};
 use turn_lock::Pass;
 
 /// The guests of the slots before a run's first entry, that of slot 63 first.
@@ -31,7 +31,7 @@ pub(crate) fn make_guests(alloc: Global, hall: &Hall<Block>) -> Result<Vec<Guest
 }
 
 // The worker of a slot.
-fn worker_of<N: Engine + Drop>(guest: Guest, pass: Pass<Hall<Block>>, engine: N) -> Worker<N>
+fn worker_of<N: Engine + Drop>(guest: Guest, pass: Pass<SharedHall>, engine: N) -> Worker<N>
     requires number { pass_number pass ≡ guest_slot guest }
     ensures { IsWorkerOf guest pass engine result }
 {
@@ -45,7 +45,7 @@ fn worker_of<N: Engine + Drop>(guest: Guest, pass: Pass<Hall<Block>>, engine: N)
 /// A worker for each slot, of these guests and passes, each with an engine of its own.
 pub(crate) fn make_workers<N: Engine + Drop>(
     guests: Vec<Guest>,
-    passes: Vec<Pass<Hall<Block>>>,
+    passes: Vec<Pass<SharedHall>>,
     room: Vec<Worker<N>>,
     engine: &N,
 ) -> Vec<Worker<N>>

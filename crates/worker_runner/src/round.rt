@@ -6,11 +6,9 @@ ghost use Rattle.thread_step.specs.declared.rules.Turned.TheVariants as turned;
 ghost use Rattle.worker_runner.specs.Counts.{CountsIts};
 ghost use Rattle.worker_runner.specs.Workers.{MayGo, TookIts};
 
-use hall_core::Hall;
-use ir_syntax::Block;
 use std::sync::Wait;
 use std::thread::{Threads, for_each_mut};
-use thread_step::{Context, Engine, Gate, Lifter, Rules, Turned, turn};
+use thread_step::{Context, Engine, Gate, Lifter, Rules, SharedHall, Turned, turn};
 use turn_lock::Turn;
 
 /// A slot's context, an engine of its own, and how its last turn ended.
@@ -35,7 +33,7 @@ fn has_run(last: &Turned) -> bool
 fn turns<R: Wait, L: Lifter, N: Engine + Drop, G: Gate>(
     rt: &R,
     w: &mut Worker<N>,
-    lock: &Turn<Hall<Block>>,
+    lock: &Turn<SharedHall>,
     lifter: &L,
     gate: &G,
     rules: Rules,
@@ -57,7 +55,7 @@ fn turns<R: Wait, L: Lifter, N: Engine + Drop, G: Gate>(
 fn turns_of_each<R: Threads + Wait + Sync, L: Lifter + Sync, N: Engine + Drop, G: Gate + Sync>(
     rt: &R,
     workers: &mut [Worker<N>],
-    lock: &Turn<Hall<Block>>,
+    lock: &Turn<SharedHall>,
     lifter: &L,
     gate: &G,
     rules: Rules,
@@ -84,7 +82,7 @@ pub(crate) fn round<R: Threads + Wait + Sync, L: Lifter + Sync, N: Engine + Drop
     rt: &R,
     workers: &mut [Worker<N>],
     used: usize,
-    lock: &Turn<Hall<Block>>,
+    lock: &Turn<SharedHall>,
     lifter: &L,
     gate: &G,
     rules: Rules,

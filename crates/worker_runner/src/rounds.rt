@@ -11,13 +11,11 @@ ghost use Rattle.worker_runner.specs.Rounds.{AreHeld, CameTo, HadMemory, Starts}
 
 use crate::round::{Worker, round};
 use crate::watch::{Over, Place, watch};
-use hall_core::Hall;
-use ir_syntax::Block;
 use mx_outside::Sink;
 use std::alloc::AllocError;
 use std::sync::Wait;
 use std::thread::Threads;
-use thread_step::{Engine, Gate, Lifter, Rules, Turned};
+use thread_step::{Engine, Gate, Lifter, Rules, SharedHall, Turned};
 use turn_lock::{Pass, Turn};
 
 // Whether memory was there in a turn.
@@ -53,15 +51,15 @@ pub(crate) fn rounds<
 >(
     rt: &R,
     workers: &mut Vec<Worker<N>>,
-    lock: &Turn<Hall<Block>>,
-    pass: Pass<Hall<Block>>,
+    lock: &Turn<SharedHall>,
+    pass: Pass<SharedHall>,
     place: &mut Place,
     lifter: &L,
     gate: &G,
     rules: Rules,
     out: &mut O,
     err: &mut E,
-) -> (Pass<Hall<Block>>, Over)
+) -> (Pass<SharedHall>, Over)
     requires lock { lock_of pass ≡ lock_id lock.now }
     requires number { pass_number pass ≡ 64 }
     requires counted { AreCounted N.count workers.old.items }

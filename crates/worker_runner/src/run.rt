@@ -1,6 +1,6 @@
 //! Whole runs by workers.
 
-ghost use Rattle.std.specs.Prelude.{◌≡◌, ◌≢◌, ◌≤◌, ◌++◌, ℕ, List, [], Some, true, is_some, length, vec_capacity};
+ghost use Rattle.std.specs.Prelude.{◌≡◌, ◌≢◌, ◌≤◌, ◌++◌, ℕ, IfErr, IfOk, List, [], Some, true, is_some, length, vec_capacity};
 ghost use Rattle.std.specs.FinMap as finite;
 ghost use Rattle.ir_syntax.specs.declared.block.Block.{Block as BlockData};
 ghost use Rattle.basic_blocks.specs.Reach.{is_among};
@@ -16,7 +16,7 @@ ghost use Rattle.worker_runner.specs.declared.watch.Over.TheVariants as ends;
 ghost use Rattle.worker_runner.specs.Ending.{Goes, WroteAll};
 ghost use Rattle.worker_runner.specs.Rounds.{EndIs};
 ghost use Rattle.worker_runner.specs.Watched.{IsPlace};
-ghost use Rattle.worker_runner.specs.Workers.{AreFirstGuests, Begins};
+ghost use Rattle.worker_runner.specs.Workers.{AreFirstGuests, AreFirstPasses, Begins};
 
 use crate::closing::take_back;
 use crate::making::{make_guests, make_workers};
@@ -30,7 +30,7 @@ use mx_outside::Sink;
 use std::alloc::{AllocError, Global};
 use std::sync::Wait;
 use std::thread::Threads;
-use thread_step::{Engine, Gate, Guest, Lifter, Rules};
+use thread_step::{Engine, Gate, Guest, Lifter, Rules, SharedHall};
 use turn_lock::{Pass, Turn, make};
 
 // Writes what follows the first `done` bytes of an output, unless its sink failed before, and says whether it failed.
@@ -85,11 +85,11 @@ fn run_locked<
     E: Sink,
 >(
     rt: &R,
-    lock: Turn<Hall<Block>>,
-    dealt: Vec<Pass<Hall<Block>>>,
+    lock: Turn<SharedHall>,
+    dealt: Vec<Pass<SharedHall>>,
     guests: Vec<Guest>,
     workers_room: Vec<Worker<N>>,
-    passes_room: Vec<Pass<Hall<Block>>>,
+    passes_room: Vec<Pass<SharedHall>>,
     lifter: &L,
     engine: &mut N,
     gate: &G,
@@ -133,6 +133,24 @@ fn run_locked<
     (hall, ran)
 }
 
+// A lock round a hall, with a pass for each slot and one for the driver.
+fn lock_up<R: Wait>(
+    rt: &R,
+    alloc: Global,
+    hall: Hall<Block>,
+) -> Result<(Turn<SharedHall>, Vec<Pass<SharedHall>>), (Hall<Block>, AllocError)>
+    ensures count { IfOk result (λ r. (pass_count r.0 ≡ 65) × (length r.1.items ≡ 65)) }
+    ensures passes { IfOk result (λ r. AreFirstPasses (lock_id r.0) hall 0 r.1.items) }
+    ensures refused { IfErr result (λ e. e.0 ≡ hall) }
+{
+    hall.facts();
+    let shared = SharedHall::make(alloc, hall)?;
+    match make(rt, alloc, shared, 65) {
+        Ok(made) => Ok(made),
+        Err((shared, e)) => Err((shared.into_hall(), e)),
+    }
+}
+
 // The run of a hall with these guests.
 fn run_with<
     R: Threads + Wait + Sync,
@@ -160,14 +178,13 @@ fn run_with<
     ensures outputs { WroteAll result.1 result.0 (written O.faults O.held out.old out.new) (written E.faults E.held err.old err.new) }
     ensures count { Rises (N.count engine.old) (N.count engine.new) (instruction_steps result.0.case result.0.journal) }
 {
-    hall.facts();
     let Ok(workers) = Vec::with_capacity(alloc, 64) else {
         return (hall, Ran::Memory(AllocError));
     };
     let Ok(passes) = Vec::with_capacity(alloc, 65) else {
         return (hall, Ran::Memory(AllocError));
     };
-    match make(rt, alloc, hall, 65) {
+    match lock_up(rt, alloc, hall) {
         Ok((lock, dealt)) => run_locked(
             rt, lock, dealt, guests, workers, passes, lifter, engine, gate, rules, out, err,
         ),

@@ -15,6 +15,7 @@ use ir_syntax::Block;
 use mx_outside::{Sink, write_all};
 use std::alloc::AllocError;
 use std::sync::Wait;
+use thread_step::SharedHall;
 use turn_lock::{Pass, Story, Turn};
 
 /// How far a run is: how many bytes of each output were written, how long the journal was, and how many slots there are up to
@@ -126,12 +127,12 @@ fn watch_in<O: Sink, E: Sink>(
 /// the run ends.
 pub(crate) fn watch<R: Wait, O: Sink, E: Sink>(
     rt: &R,
-    lock: &Turn<Hall<Block>>,
-    pass: Pass<Hall<Block>>,
+    lock: &Turn<SharedHall>,
+    pass: Pass<SharedHall>,
     place: &mut Place,
     out: &mut O,
     err: &mut E,
-) -> (Pass<Hall<Block>>, Over)
+) -> (Pass<SharedHall>, Over)
     requires lock { lock_of pass ≡ lock_id lock.now }
     requires number { pass_number pass ≡ 64 }
     requires saw { (h : HallOf) × Saw pass h × IsPlace place.old h }
@@ -140,6 +141,6 @@ pub(crate) fn watch<R: Wait, O: Sink, E: Sink>(
     ensures watched { (h : HallOf) → Saw pass h → IsPlace place.old h → WatchedIn result.1 result.0 place.new (written O.faults O.held out.old out.new) (written E.faults E.held err.old err.new) h }
 {
     let mut held = take(rt, lock, pass);
-    let over = watch_in(held.value(), place, out, err);
+    let over = watch_in(held.value().hall(), place, out, err);
     (give(lock, held), over)
 }

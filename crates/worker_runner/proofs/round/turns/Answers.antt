@@ -1,4 +1,4 @@
-use Rattle.std.proofs.Common.{sym, subst, ap, ◌∙◌}
+use Rattle.std.proofs.Common.{subst}
 use Rattle.turn_lock.specs.Lock.{lock_id}
 use Rattle.worker_runner.specs.Workers.{TookIts}
 use Rattle.worker_runner.proofs.Rounding.{counts_then, may_go_on, one_turn, took_then}

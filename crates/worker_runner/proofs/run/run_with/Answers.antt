@@ -1,4 +1,4 @@
-use Rattle.std.proofs.Common.{ap, ◌∙◌, arith}
+use Rattle.std.proofs.Common.{ap, ◌∙◌}
 use Rattle.thread_step.specs.Context.{HallOf}
 use Rattle.worker_runner.proofs.Ending.{none_ran}
 use Rattle.worker_runner.proofs.run.run_with.Goals as goal
@@ -11,27 +11,19 @@ run_locked-requires-clause-begins g c κs within = (
     rules = c.requires.rules;
     few = c.requires.guests.0;
     guests_are = c.requires.guests.1;
-    many = c.in-Ok-make.ensures.count.1;
-    passes_are = λ k d less. record {
-      lock = c.in-Ok-make.ensures.lock k d less;
-      number = (let n = c.in-Ok-make.ensures.in_order k d less in omega (arith, n));
-      saw = record { case = c.in-Ok-make.ensures.same_case k d less; journal = c.in-Ok-make.ensures.seen k d less; leads = c.facts.ensures.gated };
-    };
+    many = c.in-Ok-lock_up.ensures.count.1;
+    passes_are = c.in-Ok-lock_up.ensures.passes;
   },
 )
 
-pub returns-in-Ok-make-clause-case : goal.returns-in-Ok-make-clause-case
-returns-in-Ok-make-clause-case g c = c.run_locked.ensures.case c.args.hall (record {
+pub returns-in-Ok-lock_up-clause-case : goal.returns-in-Ok-lock_up-clause-case
+returns-in-Ok-lock_up-clause-case g c = c.run_locked.ensures.case c.args.hall (record {
   none = c.requires.first;
   rules = c.requires.rules;
   few = c.requires.guests.0;
   guests_are = c.requires.guests.1;
-  many = c.in-Ok-make.ensures.count.1;
-  passes_are = λ k d less. record {
-    lock = c.in-Ok-make.ensures.lock k d less;
-    number = (let n = c.in-Ok-make.ensures.in_order k d less in omega (arith, n));
-    saw = record { case = c.in-Ok-make.ensures.same_case k d less; journal = c.in-Ok-make.ensures.seen k d less; leads = c.facts.ensures.gated };
-  };
+  many = c.in-Ok-lock_up.ensures.count.1;
+  passes_are = c.in-Ok-lock_up.ensures.passes;
 })
 
 pub returns-in_default-clause-count : goal.returns-in_default-clause-count

@@ -9,16 +9,16 @@ use Rattle.worker_runner.proofs.watch.watch.Goals as goal
 pub watch_in-over-requires : goal.watch_in-over-requires
 watch_in-over-requires g c =
     let w = c.requires.saw in
-    let goes = subst (GoesOn (pass_number c.args.pass) w.0) (sym c.value.ensures.value) (c.take-held.ensures.goes w.0 w.1) in
-    let l = longer w.0 c.value.result.now c.args.place.now (grew w.0 c.value.result.now goes.entries goes.case goes.journal goes.before goes.after) w.2 in
+    let goes = subst (GoesOn (pass_number c.args.pass) w.0) (sym (c.hall.ensures.now ∙ c.value.ensures.value)) (c.take-held.ensures.goes w.0 w.1) in
+    let l = longer w.0 c.hall.result.now c.args.place.now (grew w.0 c.hall.result.now goes.entries goes.case goes.journal goes.before goes.after) w.2 in
     record { written = (w.0, w.2, l.0, l.1) }
 
 pub give-requires-clause-wrote : goal.give-requires-clause-wrote
-give-requires-clause-wrote g c = (c.value.result.now, taken_as c.take-held.result _ c.value.result.now refl c.value.ensures.value c.take-held.ensures.taken, subst (λ n. Wrote n c.value.result.now c.watch_in-over.new.hall) (sym (c.take-held.ensures.number ∙ c.requires.number)) c.watch_in-over.ensures.wrote)
+give-requires-clause-wrote g c = (c.hall.result.now, taken_as c.take-held.result _ c.hall.result.now refl (c.hall.ensures.now ∙ c.value.ensures.value) c.take-held.ensures.taken, subst (λ n. Wrote n c.hall.result.now c.watch_in-over.new.hall) (sym (c.take-held.ensures.number ∙ c.requires.number)) c.watch_in-over.ensures.wrote)
 
 pub returns-clause-watched : goal.returns-clause-watched
 returns-clause-watched g c = λ h saw place.
-    let goes = subst (GoesOn (pass_number c.args.pass) h) (sym c.value.ensures.value) (c.take-held.ensures.goes h saw) in
+    let goes = subst (GoesOn (pass_number c.args.pass) h) (sym (c.hall.ensures.now ∙ c.value.ensures.value)) (c.take-held.ensures.goes h saw) in
     let w = c.watch_in-over.ensures.wrote in
     let n = c.watch_in-over.new.hall in
     record {
