@@ -39,6 +39,8 @@ fn gather<N: Engine + Drop>(
             ctx,
             engine: other,
             turned: _turned,
+            before: _,
+            after: _,
         } = worker;
         engine.merge(other);
         let pushed = passes.push(ctx.into_pass());

@@ -9,7 +9,7 @@ ghost use Rattle.worker_runner.specs.Counts.{AreFresh};
 ghost use Rattle.worker_runner.specs.Workers.{AreFirstGuests, AreFirstPasses, IsWorkerOf};
 ghost use Rattle.worker_runner.specs.Rounds.{AreReady};
 
-use crate::round::Worker;
+use crate::round::{APART, Worker};
 use address_space::SLOTS;
 use hall_core::Hall;
 use ir_syntax::Block;
@@ -36,9 +36,11 @@ fn worker_of<N: Engine + Drop>(guest: Guest, pass: Pass<SharedHall>, engine: N) 
     ensures { IsWorkerOf guest pass engine result }
 {
     Worker {
+        before: APART,
         ctx: Context::make(guest, pass),
         engine,
         turned: Turned::Idle,
+        after: APART,
     }
 }
 

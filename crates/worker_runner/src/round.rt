@@ -11,12 +11,17 @@ use std::thread::{Threads, for_each_mut};
 use thread_step::{Context, Engine, Gate, Lifter, Rules, SharedHall, Turned, turn};
 use turn_lock::Turn;
 
+/// Bytes that keep what two processors write at each step out of one line of their caches.
+pub(crate) const APART: [u64; 16] = [0; 16];
+
 /// A slot's context, an engine of its own, and how its last turn ended.
 #[derive(Drop)]
 pub(crate) struct Worker<N: Engine + Drop> {
+    pub(crate) before: [u64; 16],
     pub(crate) ctx: Context,
     pub(crate) engine: N,
     pub(crate) turned: Turned,
+    pub(crate) after: [u64; 16],
 }
 
 // How many turns a worker has in a round at most, so that starting a thread of the operating system costs little beside them.
