@@ -1,6 +1,6 @@
 //! What the driver of a run does between rounds: it writes what grew, and ends a run in which no thread can go on.
 
-ghost use Rattle.std.specs.Prelude.{◌≡◌, ◌≤◌, drop, length};
+ghost use Rattle.std.specs.Prelude.{◌≡◌, ◌≢◌, ◌≤◌, drop, length};
 ghost use Rattle.turn_lock.specs.Lock.{lock_id};
 ghost use Rattle.turn_lock.specs.Words.{lock_of, pass_number};
 ghost use Rattle.hall_core.specs.Hall.{machine};
@@ -50,10 +50,11 @@ pub(crate) fn write_rest<K: Sink>(sink: &mut K, bytes: &[u8], done: usize) -> bo
 }
 
 // Where no entry came since the last look and no thread can go on, the run ends.
-fn end_dead(hall: &mut Hall<Block>, length: u64) -> Result<(), AllocError>
-    ensures { Wrote 64 hall.old hall.new }
+fn end_dead(hall: &mut Hall<Block>, seen: u64) -> Result<(), AllocError>
+    ensures wrote { Wrote 64 hall.old hall.new }
+    ensures still { length hall.old.journal ≢ seen → hall.new ≡ hall.old }
 {
-    if hall.ending().is_some() || hall.length() != length {
+    if hall.ending().is_some() || hall.length() != seen {
         return Ok(());
     }
     hall.reserve(1)?;
@@ -62,12 +63,12 @@ fn end_dead(hall: &mut Hall<Block>, length: u64) -> Result<(), AllocError>
 }
 
 // The same; outputs grow at their ends.
-fn look(hall: &mut Hall<Block>, length: u64) -> Result<(), AllocError>
+fn look(hall: &mut Hall<Block>, seen: u64) -> Result<(), AllocError>
     ensures wrote { Wrote 64 hall.old hall.new }
     ensures grew { Grew hall.old hall.new }
 {
     hall.facts();
-    let ended = end_dead(hall, length);
+    let ended = end_dead(hall, seen);
     hall.facts();
     ended
 }
