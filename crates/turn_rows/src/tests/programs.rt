@@ -1,0 +1,373 @@
+//! The programs.
+
+use elf_image::Image;
+use elf_writer::{Piece, row_image};
+use journal_pack::Entry::{self, Ev, Flush, Grow, Miss};
+use std::alloc::{AllocError, Global};
+
+/// Bytes at an address.
+#[derive(Clone, Copy)]
+pub struct Bytes(u64, &'static [u8]);
+
+/// A program: its bytes at 0x401000, where it begins, and at other places.
+#[derive(Clone, Copy)]
+pub struct Program {
+    pub code: &'static [u8],
+    pub second: Bytes,
+    pub third: Bytes,
+    pub fourth: Bytes,
+}
+
+const NONE: Bytes = Bytes(0x40_1000, &[]);
+
+// No bytes, and none at other places.
+const ALONE: Program = Program {
+    code: &[],
+    second: NONE,
+    third: NONE,
+    fourth: NONE,
+};
+
+// mov edi, 7; jmp exit
+pub const EXITS: Program = Program {
+    code: &[0xbf, 7, 0, 0, 0, 0xe9, 0xf6, 0xe, 0, 0],
+    ..ALONE
+};
+
+// mov edi, 1; mov esi, 0x401040; mov edx, 3; call write; xor edi, edi; call exit
+pub const WRITES: Program = Program {
+    code: &[
+        0xbf, 1, 0, 0, 0, 0xbe, 0x40, 0x10, 0x40, 0, 0xba, 3, 0, 0, 0, 0xe8, 0xfc, 0xe, 0, 0, 0x31,
+        0xff, 0xe8, 0xe5, 0xe, 0, 0,
+    ],
+    second: Bytes(0x40_1040, &[0x68, 0x69, 0xa]),
+    ..ALONE
+};
+
+// mov edi, 1; mov esi, 0x401040; mov edx, 3; call write; mov edi, 2; call write; jmp to the first
+pub const WRITES_ON: Program = Program {
+    code: &[
+        0xbf, 1, 0, 0, 0, 0xbe, 0x40, 0x10, 0x40, 0, 0xba, 3, 0, 0, 0, 0xe8, 0xfc, 0xe, 0, 0, 0xbf,
+        2, 0, 0, 0, 0xe8, 0xf2, 0xe, 0, 0, 0xeb, 0xe0,
+    ],
+    second: Bytes(0x40_1040, &[0x68, 0x69, 0xa]),
+    ..ALONE
+};
+
+// jmp to itself
+pub const SPINS: Program = Program {
+    code: &[0xeb, 0xfe],
+    ..ALONE
+};
+
+// mov edi, 0x402000; call pthread_mutex_lock, twice
+pub const LOCKS_TWICE: Program = Program {
+    code: &[
+        0xbf, 0, 0x20, 0x40, 0, 0xe8, 0x66, 0xf, 0, 0, 0xbf, 0, 0x20, 0x40, 0, 0xe8, 0x5c, 0xf, 0,
+        0,
+    ],
+    ..ALONE
+};
+
+// mov rax, 2^63; cqo; mov rcx, -1; at 0x401013 idiv rcx
+pub const DIVIDES: Program = Program {
+    code: &[
+        0x48, 0xb8, 0, 0, 0, 0, 0, 0, 0, 0x80, 0x48, 0x99, 0x48, 0xc7, 0xc1, 0xff, 0xff, 0xff,
+        0xff, 0x48, 0xf7, 0xf9,
+    ],
+    ..ALONE
+};
+
+// mov eax, [0]
+pub const LOADS_AT_0: Program = Program {
+    code: &[0x8b, 4, 0x25, 0, 0, 0, 0],
+    ..ALONE
+};
+
+// call 0x401020; movzx edi, al; jmp exit; at 0x401020 mov ecx, 0x401040; xor eax, eax; cmp eax, 1; jmp rcx; at 0x401040 setb al;
+// ret
+pub const LATE_TARGET: Program = Program {
+    code: &[0xe8, 0x1b, 0, 0, 0, 0xf, 0xb6, 0xf8, 0xe9, 0xf3, 0xe, 0, 0],
+    second: Bytes(
+        0x40_1020,
+        &[
+            0xb9, 0x40, 0x10, 0x40, 0, 0x31, 0xc0, 0x83, 0xf8, 1, 0xff, 0xe1,
+        ],
+    ),
+    third: Bytes(0x40_1040, &[0xf, 0x92, 0xc0, 0xc3]),
+    ..ALONE
+};
+
+// endbr64; push rbp; mov rbp, rsp; sub rsp, 16; mov eax, [rbp + 8]; cmp eax, 2; ja 0x401050; mov rax, [rax * 8 + 0x401080];
+// at 0x40101c jmp rax; at 0x401030 mov edi, 5; leave; jmp exit; at 0x401050 mov edi, 9; leave; jmp exit; at 0x401080 the addresses
+// 0x401050, 0x401030 and 0x401050
+pub const JUMPS_BY_A_TABLE: Program = Program {
+    code: &[
+        0xf3, 0xf, 0x1e, 0xfa, 0x55, 0x48, 0x89, 0xe5, 0x48, 0x83, 0xec, 0x10, 0x8b, 0x45, 8, 0x83,
+        0xf8, 2, 0x77, 0x3c, 0x48, 0x8b, 4, 0xc5, 0x80, 0x10, 0x40, 0, 0x3e, 0xff, 0xe0, 0xf, 0x1f,
+        0x44, 0, 0,
+    ],
+    second: Bytes(0x40_1030, &[0xbf, 5, 0, 0, 0, 0xc9, 0xe9, 0xc5, 0xe, 0, 0]),
+    third: Bytes(0x40_1050, &[0xbf, 9, 0, 0, 0, 0xc9, 0xe9, 0xa5, 0xe, 0, 0]),
+    fourth: Bytes(
+        0x40_1080,
+        &[
+            0x50, 0x10, 0x40, 0, 0, 0, 0, 0, 0x30, 0x10, 0x40, 0, 0, 0, 0, 0, 0x50, 0x10, 0x40, 0,
+            0, 0, 0, 0,
+        ],
+    ),
+};
+
+/// The journal of the serial order for it.
+pub const JUMPS_BY_A_TABLE_RUN: [Entry; 8] = [
+    Ev(0, 1),
+    Ev(0, 2),
+    Ev(0, 3),
+    Miss(0, 2, 0x40_101c, 0x40_1030),
+    Grow(0, 0x40_1030),
+    Ev(0, 1),
+    Flush(0),
+    Ev(0, 2),
+];
+
+// Thread 0 creates a thread that begins at 0x401100, joins it, and writes what each of the two loaded at the place where the
+// other one stores 1; then it exits.
+pub const TWO_THREADS: Program = Program {
+    code: &[
+        0xbf, 8, 0x20, 0x40, 0, 0x31, 0xf6, 0xba, 0, 0x11, 0x40, 0, 0x31, 0xc9, 0xe8, 0x1d, 0xf, 0,
+        0, 0xc7, 4, 0x25, 0, 0x20, 0x40, 0, 1, 0, 0, 0, 0x8b, 0x1c, 0x25, 4, 0x20, 0x40, 0, 0x48,
+        0x8b, 0x3c, 0x25, 8, 0x20, 0x40, 0, 0xbe, 0x10, 0x20, 0x40, 0, 0xe8, 9, 0xf, 0, 0, 0x83,
+        0xc3, 0x30, 0x88, 0x1c, 0x25, 0x18, 0x20, 0x40, 0, 0x8a, 4, 0x25, 0x10, 0x20, 0x40, 0, 4,
+        0x30, 0x88, 4, 0x25, 0x19, 0x20, 0x40, 0, 0xbf, 1, 0, 0, 0, 0xbe, 0x18, 0x20, 0x40, 0,
+        0xba, 2, 0, 0, 0, 0xe8, 0xab, 0xe, 0, 0, 0x31, 0xff, 0xe9, 0x94, 0xe, 0, 0,
+    ],
+    second: Bytes(
+        0x40_1100,
+        &[
+            0xc7, 4, 0x25, 4, 0x20, 0x40, 0, 1, 0, 0, 0, 0x8b, 4, 0x25, 0, 0x20, 0x40, 0, 0xc3,
+        ],
+    ),
+    ..ALONE
+};
+
+/// The journal of the serial order for these two threads, in turns of 1,024 entries.
+pub const TWO_THREADS_RUN: [Entry; 26] = [
+    Ev(0, 4),
+    Flush(0),
+    Ev(0, 0),
+    Ev(0, 0),
+    Ev(0, 0),
+    Ev(0, 1),
+    Ev(0, 2),
+    Flush(0),
+    Flush(0),
+    Miss(1, 0, 0, 0x40_1100),
+    Grow(1, 0x40_1100),
+    Ev(1, 0),
+    Ev(1, 0),
+    Ev(1, 1),
+    Flush(1),
+    Ev(1, 1),
+    Ev(0, 0),
+    Ev(0, 1),
+    Ev(0, 0),
+    Ev(0, 2),
+    Ev(0, 3),
+    Flush(0),
+    Flush(0),
+    Flush(0),
+    Ev(0, 0),
+    Ev(0, 2),
+];
+
+/// The journal of the serial order for them, in turns of one entry.
+pub const TWO_THREADS_BY_ONE: [Entry; 26] = [
+    Ev(0, 4),
+    Flush(0),
+    Ev(0, 0),
+    Miss(1, 0, 0, 0x40_1100),
+    Grow(1, 0x40_1100),
+    Ev(0, 0),
+    Ev(1, 0),
+    Ev(0, 0),
+    Ev(1, 0),
+    Ev(0, 1),
+    Flush(0),
+    Ev(1, 1),
+    Flush(1),
+    Ev(0, 2),
+    Ev(1, 1),
+    Flush(0),
+    Ev(0, 0),
+    Ev(0, 1),
+    Ev(0, 0),
+    Ev(0, 2),
+    Flush(0),
+    Ev(0, 3),
+    Flush(0),
+    Flush(0),
+    Ev(0, 0),
+    Ev(0, 2),
+];
+
+/// The journal of a strict run of them, in turns of 1,024 entries.
+pub const MISSED_RUN: [Entry; 10] = [
+    Ev(0, 4),
+    Flush(0),
+    Ev(0, 0),
+    Ev(0, 0),
+    Ev(0, 0),
+    Ev(0, 1),
+    Ev(0, 2),
+    Flush(0),
+    Flush(0),
+    Miss(1, 0, 0, 0x40_1100),
+];
+
+// The same with mfence between store and load in both.
+pub const FENCED: Program = Program {
+    code: &[
+        0xbf, 8, 0x20, 0x40, 0, 0x31, 0xf6, 0xba, 0, 0x11, 0x40, 0, 0x31, 0xc9, 0xe8, 0x1d, 0xf, 0,
+        0, 0xc7, 4, 0x25, 0, 0x20, 0x40, 0, 1, 0, 0, 0, 0xf, 0xae, 0xf0, 0x8b, 0x1c, 0x25, 4, 0x20,
+        0x40, 0, 0x48, 0x8b, 0x3c, 0x25, 8, 0x20, 0x40, 0, 0xbe, 0x10, 0x20, 0x40, 0, 0xe8, 6, 0xf,
+        0, 0, 0x83, 0xc3, 0x30, 0x88, 0x1c, 0x25, 0x18, 0x20, 0x40, 0, 0x8a, 4, 0x25, 0x10, 0x20,
+        0x40, 0, 4, 0x30, 0x88, 4, 0x25, 0x19, 0x20, 0x40, 0, 0xbf, 1, 0, 0, 0, 0xbe, 0x18, 0x20,
+        0x40, 0, 0xba, 2, 0, 0, 0, 0xe8, 0xa8, 0xe, 0, 0, 0x31, 0xff, 0xe9, 0x91, 0xe, 0, 0,
+    ],
+    second: Bytes(
+        0x40_1100,
+        &[
+            0xc7, 4, 0x25, 4, 0x20, 0x40, 0, 1, 0, 0, 0, 0xf, 0xae, 0xf0, 0x8b, 4, 0x25, 0, 0x20,
+            0x40, 0, 0xc3,
+        ],
+    ),
+    ..ALONE
+};
+
+/// The journal of the serial order for them, in turns of one entry.
+pub const FENCED_RUN: [Entry; 28] = [
+    Ev(0, 4),
+    Flush(0),
+    Ev(0, 0),
+    Miss(1, 0, 0, 0x40_1100),
+    Grow(1, 0x40_1100),
+    Ev(0, 0),
+    Ev(1, 0),
+    Flush(0),
+    Ev(0, 0),
+    Flush(1),
+    Ev(1, 0),
+    Ev(0, 0),
+    Ev(1, 0),
+    Ev(0, 1),
+    Ev(1, 1),
+    Ev(0, 2),
+    Ev(1, 1),
+    Flush(0),
+    Ev(0, 0),
+    Ev(0, 1),
+    Ev(0, 0),
+    Ev(0, 2),
+    Flush(0),
+    Ev(0, 3),
+    Flush(0),
+    Flush(0),
+    Ev(0, 0),
+    Ev(0, 2),
+];
+
+// A hundred threads, each created and joined, and then the next; each adds 1 at 0x402000, which is the number of the exit.
+pub const HUNDRED_THREADS: Program = Program {
+    code: &[
+        0x31, 0xdb, 0xbf, 8, 0x20, 0x40, 0, 0x31, 0xf6, 0xba, 0, 0x11, 0x40, 0, 0x31, 0xc9, 0xe8,
+        0x1b, 0xf, 0, 0, 0x48, 0x8b, 0x3c, 0x25, 8, 0x20, 0x40, 0, 0x31, 0xf6, 0xe8, 0x1c, 0xf, 0,
+        0, 0xff, 0xc3, 0x83, 0xfb, 0x64, 0xf, 0x85, 0xd3, 0xff, 0xff, 0xff, 0x8b, 0x3c, 0x25, 0,
+        0x20, 0x40, 0, 0xe9, 0xc5, 0xe, 0, 0,
+    ],
+    second: Bytes(0x40_1100, &[0xf0, 0xff, 4, 0x25, 0, 0x20, 0x40, 0, 0xc3]),
+    ..ALONE
+};
+
+// A thread adds 3 once at 0x402000, and once at 0x402008 under a mutex; thread 0 joins it and writes both sums.
+pub const GENERATED: Program = Program {
+    code: &[
+        0x31, 0xdb, 0x48, 0x8d, 0x3c, 0xdd, 0, 0x24, 0x40, 0, 0x31, 0xf6, 0xba, 0, 0x11, 0x40, 0,
+        0x48, 0x8b, 0xc, 0xdd, 0, 0x21, 0x40, 0, 0xe8, 0x12, 0xf, 0, 0, 0xff, 0xc3, 0x83, 0xfb, 1,
+        0xf, 0x85, 0xd9, 0xff, 0xff, 0xff, 0x31, 0xdb, 0x48, 0x8b, 0x3c, 0xdd, 0, 0x24, 0x40, 0,
+        0x31, 0xf6, 0xe8, 6, 0xf, 0, 0, 0xff, 0xc3, 0x83, 0xfb, 1, 0xf, 0x85, 0xe6, 0xff, 0xff,
+        0xff, 0xbf, 1, 0, 0, 0, 0xbe, 0, 0x20, 0x40, 0, 0xba, 0x10, 0, 0, 0, 0xe8, 0xb7, 0xe, 0, 0,
+        0x48, 0x8b, 4, 0x25, 0, 0x20, 0x40, 0, 0x31, 0xff, 0x48, 0x3b, 4, 0x25, 8, 0x20, 0x40, 0,
+        0x40, 0xf, 0x95, 0xc7, 0xe8, 0x8c, 0xe, 0, 0,
+    ],
+    second: Bytes(
+        0x40_1100,
+        &[
+            0x49, 0x89, 0xfc, 0x41, 0xbd, 1, 0, 0, 0, 0x4c, 0x89, 0xe0, 0xf0, 0x48, 0xf, 0xc1, 4,
+            0x25, 0, 0x20, 0x40, 0, 0xbf, 0x10, 0x20, 0x40, 0, 0xe8, 0x50, 0xe, 0, 0, 0x48, 0x8b,
+            4, 0x25, 8, 0x20, 0x40, 0, 0x4c, 1, 0xe0, 0x48, 0x89, 4, 0x25, 8, 0x20, 0x40, 0, 0xbf,
+            0x10, 0x20, 0x40, 0, 0xe8, 0x53, 0xe, 0, 0, 0x41, 0xff, 0xcd, 0xf, 0x85, 0xc3, 0xff,
+            0xff, 0xff, 0x31, 0xc0, 0xc3,
+        ],
+    ),
+    third: Bytes(0x40_2100, &[3, 0, 0, 0, 0, 0, 0, 0]),
+    ..ALONE
+};
+
+/// The journal of the serial order for it, in turns of 1,024 entries.
+pub const GENERATED_RUN: [Entry; 34] = [
+    Ev(0, 4),
+    Ev(0, 1),
+    Flush(0),
+    Ev(0, 0),
+    Ev(0, 4),
+    Ev(0, 2),
+    Flush(0),
+    Miss(1, 0, 0, 0x40_1100),
+    Grow(1, 0x40_1100),
+    Grow(1, 0x40_1109),
+    Grow(1, 0x40_1120),
+    Grow(1, 0x40_113d),
+    Grow(1, 0x40_1146),
+    Ev(1, 3),
+    Ev(1, 2),
+    Flush(1),
+    Ev(1, 0),
+    Ev(1, 0),
+    Ev(1, 2),
+    Ev(1, 1),
+    Flush(1),
+    Flush(1),
+    Ev(1, 0),
+    Ev(1, 3),
+    Ev(1, 1),
+    Ev(0, 0),
+    Ev(0, 6),
+    Flush(0),
+    Ev(0, 0),
+    Ev(0, 0),
+    Ev(0, 2),
+    Ev(0, 2),
+    Flush(0),
+    Ev(0, 0),
+];
+
+fn piece(part: Bytes) -> Piece<'static> {
+    Piece {
+        at: part.0,
+        bytes: part.1,
+    }
+}
+
+/// The image in which a program stands.
+pub fn image(alloc: Global, program: &Program) -> Result<Image, AllocError> {
+    let pieces = [
+        Piece {
+            at: 0x40_1000,
+            bytes: program.code,
+        },
+        piece(program.second),
+        piece(program.third),
+        piece(program.fourth),
+    ];
+    row_image(alloc, &pieces)
+}
