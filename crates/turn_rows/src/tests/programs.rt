@@ -15,7 +15,6 @@ pub struct Program {
     pub code: &'static [u8],
     pub second: Bytes,
     pub third: Bytes,
-    pub fourth: Bytes,
 }
 
 const NONE: Bytes = Bytes(0x40_1000, &[]);
@@ -25,7 +24,6 @@ const ALONE: Program = Program {
     code: &[],
     second: NONE,
     third: NONE,
-    fourth: NONE,
 };
 
 // mov edi, 7; jmp exit
@@ -78,12 +76,6 @@ pub const DIVIDES: Program = Program {
     ..ALONE
 };
 
-// mov eax, [0]
-pub const LOADS_AT_0: Program = Program {
-    code: &[0x8b, 4, 0x25, 0, 0, 0, 0],
-    ..ALONE
-};
-
 // call 0x401020; movzx edi, al; jmp exit; at 0x401020 mov ecx, 0x401040; xor eax, eax; cmp eax, 1; jmp rcx; at 0x401040 setb al;
 // ret
 pub const LATE_TARGET: Program = Program {
@@ -97,38 +89,6 @@ pub const LATE_TARGET: Program = Program {
     third: Bytes(0x40_1040, &[0xf, 0x92, 0xc0, 0xc3]),
     ..ALONE
 };
-
-// endbr64; push rbp; mov rbp, rsp; sub rsp, 16; mov eax, [rbp + 8]; cmp eax, 2; ja 0x401050; mov rax, [rax * 8 + 0x401080];
-// at 0x40101c jmp rax; at 0x401030 mov edi, 5; leave; jmp exit; at 0x401050 mov edi, 9; leave; jmp exit; at 0x401080 the addresses
-// 0x401050, 0x401030 and 0x401050
-pub const JUMPS_BY_A_TABLE: Program = Program {
-    code: &[
-        0xf3, 0xf, 0x1e, 0xfa, 0x55, 0x48, 0x89, 0xe5, 0x48, 0x83, 0xec, 0x10, 0x8b, 0x45, 8, 0x83,
-        0xf8, 2, 0x77, 0x3c, 0x48, 0x8b, 4, 0xc5, 0x80, 0x10, 0x40, 0, 0x3e, 0xff, 0xe0, 0xf, 0x1f,
-        0x44, 0, 0,
-    ],
-    second: Bytes(0x40_1030, &[0xbf, 5, 0, 0, 0, 0xc9, 0xe9, 0xc5, 0xe, 0, 0]),
-    third: Bytes(0x40_1050, &[0xbf, 9, 0, 0, 0, 0xc9, 0xe9, 0xa5, 0xe, 0, 0]),
-    fourth: Bytes(
-        0x40_1080,
-        &[
-            0x50, 0x10, 0x40, 0, 0, 0, 0, 0, 0x30, 0x10, 0x40, 0, 0, 0, 0, 0, 0x50, 0x10, 0x40, 0,
-            0, 0, 0, 0,
-        ],
-    ),
-};
-
-/// The journal of the serial order for it.
-pub const JUMPS_BY_A_TABLE_RUN: [Entry; 8] = [
-    Ev(0, 1),
-    Ev(0, 2),
-    Ev(0, 3),
-    Miss(0, 2, 0x40_101c, 0x40_1030),
-    Grow(0, 0x40_1030),
-    Ev(0, 1),
-    Flush(0),
-    Ev(0, 2),
-];
 
 // Thread 0 creates a thread that begins at 0x401100, joins it, and writes what each of the two loaded at the place where the
 // other one stores 1; then it exits.
@@ -174,102 +134,6 @@ pub const TWO_THREADS_RUN: [Entry; 26] = [
     Ev(0, 2),
     Ev(0, 3),
     Flush(0),
-    Flush(0),
-    Flush(0),
-    Ev(0, 0),
-    Ev(0, 2),
-];
-
-/// The journal of the serial order for them, in turns of one entry.
-pub const TWO_THREADS_BY_ONE: [Entry; 26] = [
-    Ev(0, 4),
-    Flush(0),
-    Ev(0, 0),
-    Miss(1, 0, 0, 0x40_1100),
-    Grow(1, 0x40_1100),
-    Ev(0, 0),
-    Ev(1, 0),
-    Ev(0, 0),
-    Ev(1, 0),
-    Ev(0, 1),
-    Flush(0),
-    Ev(1, 1),
-    Flush(1),
-    Ev(0, 2),
-    Ev(1, 1),
-    Flush(0),
-    Ev(0, 0),
-    Ev(0, 1),
-    Ev(0, 0),
-    Ev(0, 2),
-    Flush(0),
-    Ev(0, 3),
-    Flush(0),
-    Flush(0),
-    Ev(0, 0),
-    Ev(0, 2),
-];
-
-/// The journal of a strict run of them, in turns of 1,024 entries.
-pub const MISSED_RUN: [Entry; 10] = [
-    Ev(0, 4),
-    Flush(0),
-    Ev(0, 0),
-    Ev(0, 0),
-    Ev(0, 0),
-    Ev(0, 1),
-    Ev(0, 2),
-    Flush(0),
-    Flush(0),
-    Miss(1, 0, 0, 0x40_1100),
-];
-
-// The same with mfence between store and load in both.
-pub const FENCED: Program = Program {
-    code: &[
-        0xbf, 8, 0x20, 0x40, 0, 0x31, 0xf6, 0xba, 0, 0x11, 0x40, 0, 0x31, 0xc9, 0xe8, 0x1d, 0xf, 0,
-        0, 0xc7, 4, 0x25, 0, 0x20, 0x40, 0, 1, 0, 0, 0, 0xf, 0xae, 0xf0, 0x8b, 0x1c, 0x25, 4, 0x20,
-        0x40, 0, 0x48, 0x8b, 0x3c, 0x25, 8, 0x20, 0x40, 0, 0xbe, 0x10, 0x20, 0x40, 0, 0xe8, 6, 0xf,
-        0, 0, 0x83, 0xc3, 0x30, 0x88, 0x1c, 0x25, 0x18, 0x20, 0x40, 0, 0x8a, 4, 0x25, 0x10, 0x20,
-        0x40, 0, 4, 0x30, 0x88, 4, 0x25, 0x19, 0x20, 0x40, 0, 0xbf, 1, 0, 0, 0, 0xbe, 0x18, 0x20,
-        0x40, 0, 0xba, 2, 0, 0, 0, 0xe8, 0xa8, 0xe, 0, 0, 0x31, 0xff, 0xe9, 0x91, 0xe, 0, 0,
-    ],
-    second: Bytes(
-        0x40_1100,
-        &[
-            0xc7, 4, 0x25, 4, 0x20, 0x40, 0, 1, 0, 0, 0, 0xf, 0xae, 0xf0, 0x8b, 4, 0x25, 0, 0x20,
-            0x40, 0, 0xc3,
-        ],
-    ),
-    ..ALONE
-};
-
-/// The journal of the serial order for them, in turns of one entry.
-pub const FENCED_RUN: [Entry; 28] = [
-    Ev(0, 4),
-    Flush(0),
-    Ev(0, 0),
-    Miss(1, 0, 0, 0x40_1100),
-    Grow(1, 0x40_1100),
-    Ev(0, 0),
-    Ev(1, 0),
-    Flush(0),
-    Ev(0, 0),
-    Flush(1),
-    Ev(1, 0),
-    Ev(0, 0),
-    Ev(1, 0),
-    Ev(0, 1),
-    Ev(1, 1),
-    Ev(0, 2),
-    Ev(1, 1),
-    Flush(0),
-    Ev(0, 0),
-    Ev(0, 1),
-    Ev(0, 0),
-    Ev(0, 2),
-    Flush(0),
-    Ev(0, 3),
     Flush(0),
     Flush(0),
     Ev(0, 0),
@@ -367,7 +231,6 @@ pub fn image(alloc: Global, program: &Program) -> Result<Image, AllocError> {
         },
         piece(program.second),
         piece(program.third),
-        piece(program.fourth),
     ];
     row_image(alloc, &pieces)
 }

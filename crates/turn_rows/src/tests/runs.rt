@@ -3,16 +3,14 @@
 use crate::tests::blocks::RowLifter;
 use crate::tests::lifters::CountingLifter;
 use crate::tests::programs::{
-    DIVIDES, EXITS, FENCED, FENCED_RUN, GENERATED, GENERATED_RUN, HUNDRED_THREADS,
-    JUMPS_BY_A_TABLE, JUMPS_BY_A_TABLE_RUN, LOADS_AT_0, LOCKS_TWICE, MISSED_RUN, Program,
-    TWO_THREADS, TWO_THREADS_BY_ONE, TWO_THREADS_RUN, WRITES, WRITES_ON,
+    EXITS, GENERATED, GENERATED_RUN, HUNDRED_THREADS, LOCKS_TWICE, Program, TWO_THREADS,
+    TWO_THREADS_RUN, WRITES_ON,
 };
 use crate::tests::run::hall_of;
 use hall_core::Hall;
 use ir_runner::{Ran, run_serial};
 use ir_syntax::Block;
 use journal_pack::Entry::{self, Dead, Ev, Flush, Grow, Miss, Over};
-use lib_table::BadKind;
 use machine_model::ending::RunEnd;
 use mx_outside::MemorySink;
 use std::alloc::Global;
@@ -88,15 +86,6 @@ const PLAIN: How<'static> = How {
     err_fails: &[],
 };
 
-// A strict run, in turns of 1,024 entries.
-const STRICT: How<'static> = How {
-    limit: 20_000,
-    strict: true,
-    turn: 1024,
-    out_fails: &[],
-    err_fails: &[],
-};
-
 /// A run, how it stops and what it leaves: it ends, or the writes to these of its two sinks fail.
 #[derive(Clone, Copy)]
 struct Row {
@@ -122,13 +111,7 @@ const RUN: Row = Row {
     err: &[],
 };
 
-static ROWS: [Row; 15] = [
-    Row {
-        name: "a program exits",
-        ending: Some(RunEnd::Exit(7)),
-        journal: &[Ev(0, 2)],
-        ..RUN
-    },
+static ROWS: [Row; 6] = [
     Row {
         name: "the limit is reached in a block",
         how: How { limit: 2, ..PLAIN },
@@ -144,95 +127,11 @@ static ROWS: [Row; 15] = [
         ..RUN
     },
     Row {
-        name: "a division goes wrong",
-        program: DIVIDES,
-        ending: Some(RunEnd::Fault {
-            thread: 0,
-            rip: 0x40_1013,
-            kind: BadKind::Divide,
-        }),
-        journal: &[Ev(0, 3)],
-        ..RUN
-    },
-    Row {
-        name: "nothing stands at 0",
-        program: LOADS_AT_0,
-        ending: Some(RunEnd::Fault {
-            thread: 0,
-            rip: 0x40_1000,
-            kind: BadKind::Access(0),
-        }),
-        journal: &[Ev(0, 0)],
-        ..RUN
-    },
-    Row {
-        name: "a target of a table grows",
-        program: JUMPS_BY_A_TABLE,
-        ending: Some(RunEnd::Exit(5)),
-        journal: &JUMPS_BY_A_TABLE_RUN,
-        ..RUN
-    },
-    Row {
-        name: "a target of a table is missed",
-        program: JUMPS_BY_A_TABLE,
-        how: STRICT,
-        ending: Some(RunEnd::Miss(miss_report::Miss {
-            thread: 0,
-            source: 0x40_101c,
-            target: 0x40_1030,
-        })),
-        journal: &[
-            Ev(0, 1),
-            Ev(0, 2),
-            Ev(0, 3),
-            Miss(0, 2, 0x40_101c, 0x40_1030),
-        ],
-        ..RUN
-    },
-    Row {
-        name: "a strict run ends at a miss",
-        program: TWO_THREADS,
-        how: STRICT,
-        ending: Some(RunEnd::Miss(miss_report::Miss {
-            thread: 1,
-            source: 0,
-            target: 0x40_1100,
-        })),
-        journal: &MISSED_RUN,
-        ..RUN
-    },
-    Row {
-        name: "an output is written",
-        program: WRITES,
-        ending: Some(RunEnd::Exit(0)),
-        journal: &[Ev(0, 3), Flush(0), Ev(0, 0), Ev(0, 1), Flush(0), Ev(0, 0)],
-        out: &[0x68, 0x69, 0xa],
-        ..RUN
-    },
-    Row {
         name: "two threads take turns",
         program: TWO_THREADS,
         ending: Some(RunEnd::Exit(0)),
         journal: &TWO_THREADS_RUN,
         out: &[0x30, 0x31],
-        ..RUN
-    },
-    Row {
-        name: "writes wait for turns",
-        program: TWO_THREADS,
-        how: How { turn: 1, ..PLAIN },
-        ending: Some(RunEnd::Exit(0)),
-        journal: &TWO_THREADS_BY_ONE,
-        out: &[0x30, 0x30],
-        ..RUN
-    },
-    Row {
-        name: "fences let no write wait",
-        program: FENCED,
-        how: How { turn: 1, ..PLAIN },
-        ending: Some(RunEnd::Exit(0)),
-        journal: &FENCED_RUN,
-        out: &[0x31, 0x31],
         ..RUN
     },
     Row {
@@ -359,5 +258,20 @@ fn memory_is_wanting_in_a_round(rt: HostRuntime) -> Result<(), Fail> {
     let made = run_by(rt.alloc(), &GENERATED, PLAIN, &lifter)?;
     assert!(rt; matches!(made.ran, Ran::Memory(_)));
     assert!(rt; is_left(rt.alloc(), made, None, &GENERATED_RUN[..9], &[], &[])?);
+    Ok(())
+}
+
+// A run calls `lift` for each place that it grows, at least.
+#[test]
+fn each_place_that_grows_is_lifted(rt: HostRuntime) -> Result<(), Fail> {
+    let one = CountingLifter::make(rt.alloc(), 0, 0);
+    let made = run_by(rt.alloc(), &TWO_THREADS, PLAIN, &one)?;
+    let end = Some(RunEnd::Exit(0));
+    assert!(rt; is_left(rt.alloc(), made, end, &TWO_THREADS_RUN, b"01", &[])?);
+    assert!(rt; one.lifts() >= 1);
+    let five = CountingLifter::make(rt.alloc(), 0, 0);
+    let made = run_by(rt.alloc(), &GENERATED, PLAIN, &five)?;
+    assert!(rt; matches!(made.ran, Ran::Ended));
+    assert!(rt; five.lifts() >= 5);
     Ok(())
 }
