@@ -1,0 +1,3 @@
+-- What the tests cite.
+pub mod Lifted
+pub mod Good
