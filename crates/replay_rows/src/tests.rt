@@ -1,0 +1,5 @@
+//! Journals of worked programs, whole and damaged.
+
+mod following;
+mod programs;
+mod rows;
