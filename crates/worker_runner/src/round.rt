@@ -25,7 +25,7 @@ pub(crate) struct Worker<N: Engine + Drop> {
 }
 
 // How many turns a worker has in a round at most, so that starting a thread of the operating system costs little beside them.
-const TURNS: u32 = 64;
+const TURNS: u32 = 16;
 
 // Whether a turn ended by its budget, or by the end of the thread's life.
 fn has_run(last: &Turned) -> bool

@@ -226,7 +226,7 @@ fn run_all<
 }
 
 /// Runs all threads of a hall whose journal is empty beside each other, with a worker for each slot in use, up to an ending of
-/// the guest program, a write that failed, or want of memory. In a round each slot in use has up to 64 turns, in a
+/// the guest program, a write that failed, or want of memory. In a round each slot in use has up to 16 turns, in a
 /// thread of the operating system where one can be started, and else in the caller's. After each round in which an output grew, what grew is
 /// written, first output 1 to `out`, then output 2 to `err`, whether or not the first write failed; a round without an entry
 /// is followed by `Dead` where no thread can go on.
