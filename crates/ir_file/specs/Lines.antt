@@ -1,6 +1,6 @@
 -- On which lines of a text the lines of its blocks stand.
 use Rattle.std.specs.Prelude.{ℕ, ◌+◌, zero, suc, List, [], ◌∷◌, ◌++◌, length, take, codes}
-use Rattle.std.specs.List.{flat_map}
+use Rattle.std.specs.List.{flat_map, sum_by}
 use Rattle.ir_syntax.specs.declared.block.Block.{Block}
 use Rattle.ir_syntax.specs.declared.block.Part.{Part}
 use Rattle.ir_text.specs.Text.{block_text, code_text, hex, lined, op_text, part_text, spaced, text}
@@ -24,14 +24,15 @@ before_line before block i k = text before ++ (block_line block ++ before_in blo
 -- ---- in lines
 
 -- an op and the end of a part have a line each
+abbrev pub lines_of_part : Part → ℕ
+lines_of_part p = length p.ops + 1
+
 abbrev pub lines_of_parts : List Part → ℕ
-lines_of_parts [] = 0
-lines_of_parts (p ∷ ps) = (length p.ops + 1) + lines_of_parts ps
+lines_of_parts = sum_by lines_of_part
 
 -- a block has its own line, those of its parts, and `end`
 abbrev pub lines_of_block : Block → ℕ
 lines_of_block b = lines_of_parts b.parts + 2
 
 abbrev pub lines_of_blocks : List Block → ℕ
-lines_of_blocks [] = 0
-lines_of_blocks (b ∷ bs) = lines_of_block b + lines_of_blocks bs
+lines_of_blocks = sum_by lines_of_block
