@@ -1,23 +1,18 @@
-//! Stub.
+//! Files of blocks: the text that a run or a lift is given.
+//!
+//! `read_blocks` reads a file of the text of the register language, checks the grammar of the whole text, and then the types of
+//! its blocks. Its contract cites `AreBlocksIn` and `RefusesBlocks` of `specs/Blocks.antt`; the line of the first op that isn't
+//! well typed is that of `IsUntyped` of `specs/Untyped.antt`, a place in the text itself.
+//!
+//! What runs or extends a text that was lifted stands on this crate. That the blocks are those of an image is decided there.
 #![tactic(auto)]
 
-ghost use Rattle.std.specs.Prelude.{◌≡◌, IfErr, IfOk, OnOk};
-ghost use Rattle.ir_file.specs.Blocks.{AreBlocksIn, RefusesBlocks};
-
 mod fault;
+mod lines;
+mod reading;
 
 pub use fault::IrFault;
+pub use reading::read_blocks;
 
-use ir_syntax::Block;
-use mx_outside::Files;
-use std::alloc::{AllocError, Global};
-
-pub fn read_blocks<F: Files>(_alloc: Global, name: &str, files: &mut F) -> Result<Vec<Block>, IrFault>
-    ensures blocks { IfOk result (λ blocks. AreBlocksIn (F.names files.old) name.now blocks.items) }
-    ensures refusal { IfErr result (RefusesBlocks (F.names files.old) name.now (F.read_faults files.old) (F.read_faults files.new)) }
-    ensures counted { OnOk result (F.read_faults files.new ≡ F.read_faults files.old) }
-    ensures names { F.names files.new ≡ F.names files.old }
-    ensures writes { F.write_faults files.new ≡ F.write_faults files.old }
-{
-    Err(IrFault::Memory(AllocError))
-}
+#[cfg(test)]
+mod tests;

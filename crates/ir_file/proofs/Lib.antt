@@ -1,0 +1,3 @@
+pub mod Plain
+pub mod Counting
+pub mod Typing
