@@ -23,7 +23,7 @@ mod rows;
 mod words;
 
 pub use fault::{TextFailure, TextFault};
-pub use printing::print;
+pub use printing::{print, push_block};
 pub use reading::parse;
 
 /// Two lists of blocks with the same text are equal.

@@ -357,8 +357,13 @@ fn push_code(alloc: Global, out: &mut String, code: &[u8]) -> Result<(), AllocEr
     }
 }
 
-/// A block, with its first and its last line.
-fn push_block(alloc: Global, out: &mut String, block: &Block) -> Result<(), AllocError>
+/// Appends the text of a block, from its first line to its last, to what is written. The text of a list of blocks is the line
+/// `ir 1` and then the blocks' own, so whoever writes a long text can write it block by block.
+///
+/// # Errors
+///
+/// Memory for the lines is wanting; then any part of them may have been appended.
+pub fn push_block(alloc: Global, out: &mut String, block: &Block) -> Result<(), AllocError>
     requires { HasText block.now }
     ensures { OnOk result (string_bytes out.new ≡ string_bytes out.old ++ block_text block.now) }
 {
