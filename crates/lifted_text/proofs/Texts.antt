@@ -57,9 +57,6 @@ blocks_have fits b at typed known =
       parts = parts_have unwritten b.parts refl typed.1 (subst (λ (ps : List Part). AllNumbers ps) (sym known.parts) (block_numbers known.instrs (spelled_fit fits b.at b.code known.instrs known.spelled)));
     }
 
-pub lifted_have : SpelledFits → LiftedBlocksHaveText
-lifted_have fits image a at typed known = blocks_have fits (lifted_block image a) at typed known
-
 -- ---- texts
 
 more : (blocks : List Block) (b : Block) → flat_map block_text (blocks ++ b ∷ []) ≡ flat_map block_text blocks ++ block_text b

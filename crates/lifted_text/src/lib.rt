@@ -22,11 +22,10 @@ pub fn blocks_of_bytes_have_text()
 }
 
 /// The lifted block at an address of 64 bits has a text.
-#[tactic(auto, using(crate::proofs::Texts::lifted_have))]
 pub fn lifted_blocks_have_text()
     ensures { LiftedBlocksHaveText }
 {
-    spelled_fits();
+    blocks_of_bytes_have_text();
 }
 
 /// The text of one block more is the text before it, and then the block's own; the text of no blocks is its first line.
