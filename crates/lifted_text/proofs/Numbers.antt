@@ -1,8 +1,8 @@
 -- The numbers in the parts of lifted instructions have 64 bits.
-use Rattle.std.proofs.Common.{◌≡◌, ℕ, ℤ, pos, negsuc, ◌<◌, ◌+◌, ◌-◌, ◌%◌, ◌^◌, Bool, true, false, subst, sym, refl, List, [], ◌∷◌, ◌++◌, Option, Some, None, arith}
+use Rattle.std.proofs.Common.{ℕ, ℤ, pos, negsuc, ◌+◌, ◌-◌, ◌^◌, Bool, true, false, List, [], ◌∷◌, ◌++◌, Option, Some, None, arith}
 use Rattle.std.proofs.lemmas.Int.{ints}
 use Rattle.std.specs.Int.{w64, cast_unsigned}
-use Rattle.std.specs.Prelude.{if◌then◌else◌, All, ◌==◌}
+use Rattle.std.specs.Prelude.{if◌then◌else◌, ◌==◌}
 use Rattle.ir_meaning.specs.Live.{is_dead, kept_ops, kept_parts, live_before_end, live_before_ops, live_before_parts}
 use Rattle.ir_syntax.specs.declared.block.Part.{Part}
 use Rattle.ir_syntax.specs.declared.cond.Flag.{Flag}
@@ -21,8 +21,6 @@ use Rattle.ir_syntax.specs.declared.line.Target.TheVariants.{Place, Temp}
 use Rattle.ir_text.specs.Text.{IsNumber}
 use Rattle.x86_flags.specs.declared.flags.Flags.{Flags}
 use Rattle.x86_flags.specs.Shifts.{count_of}
-use Rattle.x86_forms.specs.declared.instructions.AluOp.{AluOp}
-use Rattle.x86_forms.specs.declared.instructions.OneOp.{OneOp}
 use Rattle.x86_forms.specs.declared.instructions.ShiftOp.{ShiftOp}
 use Rattle.x86_forms.specs.declared.instructions.Instr.{Instr}
 use Rattle.x86_forms.specs.declared.instructions.Instr.TheVariants.{Alu, Mov, Zx, Sx, Lea, Push, Pop, One, Mul, Imul, Div, Shift, Widen, Spread, Xchg, Set, Cmov, Jcc, Jmp, JmpTo, Call, CallTo, Ret, Leave, Nop, Pause, Endbr, Mfence, LockAlu, LockOne, Xadd, Cmpxchg}
@@ -40,9 +38,9 @@ use Rattle.x86_model.specs.Registers.{half}
 use Rattle.x86_model.specs.Results.{keeps_result}
 use Rattle.basic_blocks.specs.Placed.{Placed}
 use Rattle.lift_table.specs.Faithful.{block_parts, lifted_all}
-use Rattle.lift_table.specs.LiftLines.{address_line, addressed, all_but_carry, all_five, alone, alu_family, cleared, end_at, flag_lines, given_at, ir_cond, ir_width, loads, lock_op, lock_one_op, number_in, one_family, one_flags, overflow_and_carry, part, product_family, puts, reads, shift_family, shift_flags, zero_lines}
+use Rattle.lift_table.specs.LiftLines.{address_line, addressed, all_but_carry, all_five, alone, alu_family, cleared, end_at, flag_lines, given_at, ir_cond, ir_width, loads, lock_op, lock_one_op, number_in, one_family, one_flags, overflow_and_carry, product_family, puts, reads, shift_family, shift_flags, zero_lines}
 use Rattle.lift_table.specs.LiftTable.{accumulator_ops, alu_lines, alu_parts, both_read, called, cmov_parts, count_line, counted_lines, imul_parts, lea_parts, lifted, locked_parts, mul_ops, one_parts, popped, product_lines, pushed, shift_parts, sign_extended_to, stack_at, xchg_parts, zero_extended_to}
-use Rattle.lifted_text.proofs.Spelled.{AllNumbers as Parts, EndNumber, OpNumber, OpNumbers as Ops, PartNumbers, TargetNumber}
+use Rattle.lifted_text.proofs.Spelled.{AllNumbers as Parts, EndNumber, OpNumber, OpNumbers as Ops, TargetNumber}
 
 -- ---- joining
 
@@ -279,8 +277,7 @@ lifted_numbers (Xadd w m reg) next n fits =
 lifted_numbers (Cmpxchg w m reg) next n fits =
     let old = Get (ir_width w) 3 0 ∷ [] in
     let flags = flag_lines all_five family.Sub w 3 (Some 1) in
-    let more = Cond 4 E ∷ accumulator_ops w in
-    (
+    let more = Cond 4 E ∷ accumulator_ops w in (
       record { ops = (line next m fits.0.2, join (reads w reg 2) old (reads_numbers w reg 2) (tt, tt)); end = tt },
       one (flags ++ more) ends.Tick (join flags more (flags_numbers all_five family.Sub w 3 (Some 1)) (tt, accumulator_numbers w)) tt,
     )

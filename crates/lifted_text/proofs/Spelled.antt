@@ -1,5 +1,5 @@
 -- Well typed lines have a spelling, where their numbers have 64 bits.
-use Rattle.std.proofs.Common.{◌≡◌, ◌⊎◌, inl, inr, ℕ, ◌<◌, ◌≤◌, ◌^◌, Bool, true, false, ◌&&◌, ◌||◌, ◌==◌, ap, sym, subst, refl, ◌∙◌, ⊎_elim, List, [], ◌∷◌, ◌++◌, length, Option, Some, None, arith}
+use Rattle.std.proofs.Common.{◌≡◌, ◌⊎◌, inl, inr, ℕ, ◌<◌, ◌≤◌, Bool, true, false, ◌&&◌, ◌||◌, ◌==◌, ap, subst, refl, ◌∙◌, ⊎_elim, List, [], ◌∷◌, length, Option, Some, None, arith}
 use Rattle.std.proofs.lemmas.Bool.{and_parts, cases_lt, eqb-true, ltb-true}
 use Rattle.std.proofs.lemmas.List.{get_or_past, length-set}
 use Rattle.std.proofs.lemmas.List.Elements.{All-cons, All-nil}
@@ -16,7 +16,7 @@ use Rattle.ir_syntax.specs.declared.line.Target.{Target}
 use Rattle.ir_syntax.specs.declared.line.Target.TheVariants.{Place, Temp}
 use Rattle.ir_syntax.specs.declared.width.Width.{Width}
 use Rattle.ir_syntax.specs.declared.width.Width.TheVariants.{W8, W16, W32, W64}
-use Rattle.ir_syntax.specs.Typed.{Types, are_operands, are_parts_typed, are_typed, has_result, has_width, holds, is_base, is_empty, is_end_right, is_end_typed, is_index, is_of_bits, is_part_typed, is_second, is_target, is_typed, is_width, puts, second_bits, types_after, types_after_all, types_after_end, types_after_part}
+use Rattle.ir_syntax.specs.Typed.{Types, are_parts_typed, are_typed, holds, is_base, is_empty, is_end_typed, is_index, is_of_bits, is_part_typed, is_second, is_target, is_typed, is_width, puts, second_bits, types_after, types_after_all, types_after_end, types_after_part}
 use Rattle.ir_syntax.specs.Width.{bits_of}
 use Rattle.ir_text.specs.Text.{HasEnd, HasOp, HasPart, IsBase, IsNumber, IsOneOf, IsScale, IsTarget, IsTemp, has_flags, has_two}
 

@@ -1,5 +1,5 @@
 -- The laws.
-use Rattle.std.proofs.Common.{◌≡◌, ◌≢◌, ℕ, ◌+◌, ◌<◌, ◌%◌, ◌^◌, Bool, true, false, ap, sym, subst, refl, ◌∙◌, List, [], ◌∷◌, ◌++◌, length, take, drop, arith, append-nil}
+use Rattle.std.proofs.Common.{◌≡◌, ◌≢◌, ℕ, ◌+◌, ◌<◌, ◌%◌, ◌^◌, true, ap, sym, subst, refl, ◌∙◌, List, [], ◌∷◌, ◌++◌, length, take, drop, arith, append-nil}
 use Rattle.std.proofs.lemmas.Bool.{and_parts, ltb-true}
 use Rattle.std.proofs.lemmas.List.{append_assoc, take-append-drop}
 use Rattle.std.proofs.lemmas.List.Elements.{All-append, All-cons, All-nil}
@@ -7,15 +7,13 @@ use Rattle.std.specs.List.{flat_map}
 use Rattle.std.specs.Prelude.{All, nat_lt, codes}
 use Rattle.ir_syntax.specs.declared.block.Block.{Block}
 use Rattle.ir_syntax.specs.declared.block.Part.{Part}
-use Rattle.ir_syntax.specs.Typed.{IsWellTyped, unwritten}
-use Rattle.ir_text.specs.Text.{HasText, block_text, text}
+use Rattle.ir_syntax.specs.Typed.{unwritten}
+use Rattle.ir_text.specs.Text.{block_text}
 use Rattle.x86_forms.specs.Laws.{SpelledFits}
 use Rattle.x86_forms.specs.Spelling.{are_bytes}
 use Rattle.basic_blocks.specs.Placed.{Placed}
-use Rattle.lift_table.specs.Block.{lifted_block}
-use Rattle.lift_table.specs.Faithful.{block_parts}
-use Rattle.block_lift.specs.Spelled.{AreSpelled, IsOfItsBytes}
-use Rattle.lifted_text.specs.Laws.{BlocksOfBytesHaveText, LiftedBlocksHaveText, TextGrowsByBlocks}
+use Rattle.block_lift.specs.Spelled.{AreSpelled}
+use Rattle.lifted_text.specs.Laws.{BlocksOfBytesHaveText, TextGrowsByBlocks}
 use Rattle.lifted_text.proofs.Numbers.{AreFit, block_numbers}
 use Rattle.lifted_text.proofs.Spelled.{AllNumbers, parts_have}
 
