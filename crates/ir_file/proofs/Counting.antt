@@ -1,5 +1,5 @@
 -- How many lines the text of parts and of blocks has.
-use Rattle.std.proofs.Common.{◌≡◌, ℕ, zero, suc, ◌+◌, ◌==◌, ◌<◌, ◌≤◌, Bool, true, false, List, [], ◌∷◌, ◌++◌, length, take, drop, get_or, codes, refl, sym, ap, subst, ◌∙◌, append_assoc, arith, inl, inr, if◌then◌else◌}
+use Rattle.std.proofs.Common.{◌≡◌, ℕ, zero, suc, ◌+◌, ◌==◌, ◌≤◌, Bool, true, false, List, [], ◌∷◌, ◌++◌, length, take, codes, refl, sym, ap, subst, ◌∙◌, append_assoc, arith, if◌then◌else◌}
 use Rattle.std.specs.List.{flat_map}
 use Rattle.std.proofs.lemmas.List.{append-nil, length-take-le}
 use Rattle.std.proofs.lemmas.List.Sums.{sum_by-cons}
@@ -9,7 +9,7 @@ use Rattle.ir_syntax.specs.declared.line.Op.{Op}
 use Rattle.ir_text.specs.Faults.{line_from}
 use Rattle.ir_text.specs.Text.{block_text, code_text, end_text, hex, lined, op_text, part_text, spaced, text}
 use Rattle.ir_file.specs.Lines.{before_in, before_line, block_line, lines_of_block, lines_of_blocks, lines_of_part, lines_of_parts}
-use Rattle.ir_file.proofs.Plain.{IsLine, block_line_line, end_line, op_line}
+use Rattle.ir_file.proofs.Plain.{block_line_line, end_line, op_line}
 
 -- these bytes have so many newlines
 abbrev pub Counts : ℕ → List ℕ → Type 0
@@ -48,8 +48,8 @@ block_count : (b : Block) → Counts (lines_of_block b) (block_text b)
 block_count b =
     subst (Counts (lines_of_block b)) (block_whole b)
     (counts_as (1 + (lines_of_parts b.parts + 1)) (lines_of_block b) (block_line b ++ (flat_map part_text b.parts ++ codes "end\n")) (omega arith)
-     (both 1 (lines_of_parts b.parts + 1) (block_line b) (flat_map part_text b.parts ++ codes "end\n") (block_line_line b)
-      (both (lines_of_parts b.parts) 1 (flat_map part_text b.parts) (codes "end\n") (parts_count b.parts) (λ n rest. refl))))
+    (both 1 (lines_of_parts b.parts + 1) (block_line b) (flat_map part_text b.parts ++ codes "end\n") (block_line_line b)
+    (both (lines_of_parts b.parts) 1 (flat_map part_text b.parts) (codes "end\n") (parts_count b.parts) (λ n rest. refl))))
 
 blocks_count : (bs : List Block) → Counts (lines_of_blocks bs) (flat_map block_text bs)
 blocks_count [] = none

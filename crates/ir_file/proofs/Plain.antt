@@ -1,5 +1,5 @@
 -- Words have no newline, and each line ends with its only one.
-use Rattle.std.proofs.Common.{◌≡◌, ℕ, zero, suc, ◌+◌, ◌*◌, ◌/◌, ◌%◌, ◌==◌, Bool, true, false, cond, List, [], ◌∷◌, ◌++◌, Option, Some, None, codes, refl, ap, ◌∙◌, append_assoc, arith, if◌then◌else◌, slice_index_or}
+use Rattle.std.proofs.Common.{◌≡◌, ℕ, zero, suc, ◌+◌, ◌/◌, ◌%◌, ◌==◌, Bool, true, false, List, [], ◌∷◌, ◌++◌, Option, Some, None, codes, refl, ap, ◌∙◌, append_assoc, arith, if◌then◌else◌}
 use Rattle.std.specs.List.{flat_map}
 use Rattle.std.specs.Fmt.{decimal, digits, digits_onto, digit_glyph}
 use Rattle.std.proofs.lemmas.Bool.Decides.{nat_tests}
@@ -21,7 +21,7 @@ use Rattle.ir_syntax.specs.declared.line.Target.TheVariants.{Place, Temp}
 use Rattle.ir_syntax.specs.declared.width.Width.{Width}
 use Rattle.ir_syntax.specs.declared.width.Width.TheVariants.{W8, W16, W32, W64}
 use Rattle.ir_text.specs.Faults.{line_from}
-use Rattle.ir_text.specs.Text.{width_name, temp_name, register_names, register_name, base_name, flag_name, cond_name, family_name, lock_name, sign_name, cast_name, hex, target_name, spaced, dotted, lined, op_text, end_text, byte_text, code_text}
+use Rattle.ir_text.specs.Text.{width_name, temp_name, register_name, base_name, flag_name, cond_name, family_name, lock_name, sign_name, cast_name, hex, target_name, spaced, dotted, lined, op_text, end_text, byte_text, code_text}
 use Rattle.ir_file.specs.Lines.{block_line}
 
 -- these bytes have no newline

@@ -1,5 +1,5 @@
 -- The first line that isn't well typed.
-use Rattle.std.proofs.Common.{◌≡◌, ℕ, zero, suc, ◌+◌, ◌<◌, ◌≤◌, Bool, List, [], ◌∷◌, ◌++◌, length, take, drop, get_or, All, IsSomeAnd, slice_get, refl, sym, ap, subst, ◌∙◌, arith, inl, inr}
+use Rattle.std.proofs.Common.{◌≡◌, ℕ, zero, suc, ◌+◌, ◌<◌, ◌≤◌, Bool, List, [], ◌∷◌, ◌++◌, length, take, drop, get_or, All, IsSomeAnd, slice_get, sym, ap, subst, ◌∙◌, arith, inl, inr}
 use Rattle.std.proofs.lemmas.List.{drop_more, length-take-le, take-append-drop, take_more}
 use Rattle.std.proofs.lemmas.List.Elements.{All-append}
 use Rattle.std.proofs.lemmas.List.Sums.{sum_by_more, sum_by_more_le}
@@ -8,8 +8,7 @@ use Rattle.ir_syntax.specs.declared.block.Part.{Part}
 use Rattle.ir_syntax.specs.declared.line.Op.{Op}
 use Rattle.ir_syntax.specs.declared.typing.TypeFault.{TypeFault}
 use Rattle.ir_syntax.specs.Typed.{IsFault, IsFirstWrong, IsFirstWrongLine, IsWellTyped, Types, is_empty, types_after_part}
-use Rattle.ir_text.specs.Faults.{line_from}
-use Rattle.ir_file.specs.Lines.{before_line, lines_of_block, lines_of_blocks, lines_of_parts}
+use Rattle.ir_file.specs.Lines.{lines_of_block, lines_of_blocks, lines_of_parts}
 use Rattle.ir_file.specs.Untyped.{IsUntyped}
 use Rattle.ir_file.proofs.Counting.{IsInside, inside_within, line_at}
 
@@ -61,7 +60,7 @@ block_within bs i b within at = subst (λ (z : Block). lines_of_blocks (take i b
 pub more_lines : (bs : List Block) (i : ℕ) (b : Block) (line lines : ℕ) → i < length bs → b ≡ get_or bs i b → line ≡ lines_of_blocks (take i bs) + 2 → lines ≡ lines_of_parts b.parts → line + (lines + 2) ≡ lines_of_blocks (take (i + 1) bs) + 2
 more_lines bs i b line lines within at e f =
     let step : lines_of_blocks (take (i + 1) bs) ≡ lines_of_blocks (take i bs) + lines_of_block b =
-        sum_by_more lines_of_block bs i b within ∙ ap (λ (z : Block). lines_of_blocks (take i bs) + lines_of_block z) (sym at) in
+    sum_by_more lines_of_block bs i b within ∙ ap (λ (z : Block). lines_of_blocks (take i bs) + lines_of_block z) (sym at) in
     omega (arith, e, f, step)
 
 pub line_fits : (bs : List Block) (i : ℕ) (b : Block) (fault : TypeFault) (line lines bound : ℕ) → i < length bs → b ≡ get_or bs i b → IsFault b.parts fault

@@ -3,7 +3,7 @@ use Rattle.std.specs.Prelude.{ℕ, ◌+◌, zero, suc, List, [], ◌∷◌, ◌+
 use Rattle.std.specs.List.{flat_map, sum_by}
 use Rattle.ir_syntax.specs.declared.block.Block.{Block}
 use Rattle.ir_syntax.specs.declared.block.Part.{Part}
-use Rattle.ir_text.specs.Text.{block_text, code_text, hex, lined, op_text, part_text, spaced, text}
+use Rattle.ir_text.specs.Text.{code_text, hex, lined, op_text, part_text, spaced, text}
 
 -- ---- in bytes
 

@@ -67,7 +67,11 @@ fn blocks_of(alloc: Global, bytes: &[u8]) -> Result<Vec<Block>, IrFault>
 /// where it has more than 268,435,456 bytes; `Text` with the first place at which the bytes stop being the beginning of a text of
 /// blocks, or, where all of them are such a text, with the line of the first op or end of a part that isn't well typed, and
 /// column 1. `Memory` where memory is wanting, in place of any other.
-pub fn read_blocks<F: Files>(alloc: Global, name: &str, files: &mut F) -> Result<Vec<Block>, IrFault>
+pub fn read_blocks<F: Files>(
+    alloc: Global,
+    name: &str,
+    files: &mut F,
+) -> Result<Vec<Block>, IrFault>
     ensures blocks { IfOk result (λ blocks. AreBlocksIn (F.names files.old) name.now blocks.items) }
     ensures refusal { IfErr result (RefusesBlocks (F.names files.old) name.now (F.read_faults files.old) (F.read_faults files.new)) }
     ensures counted { OnOk result (F.read_faults files.new ≡ F.read_faults files.old) }

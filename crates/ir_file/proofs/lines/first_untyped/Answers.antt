@@ -6,8 +6,8 @@ use Rattle.ir_file.proofs.lines.first_untyped.Goals as goal
 pub overflow_add-result : goal.overflow_add-result
 overflow_add-result c =
     let all : c.loop-block.line + c.lines_before.result < 2 ^ 64 =
-        line_fits c.args.blocks.now c.loop-block.block-index c.block-item.result c.in-Err.fault c.loop-block.line c.lines_before.result (2 ^ 64)
-        c.loop-block-test.true c.block-item.is c.in-Err.ensures.first_wrong c.loop-block.invariant.so_far c.lines_before.ensures c.requires in
+    line_fits c.args.blocks.now c.loop-block.block-index c.block-item.result c.in-Err.fault c.loop-block.line c.lines_before.result (2 ^ 64)
+    c.loop-block-test.true c.block-item.is c.in-Err.ensures.first_wrong c.loop-block.invariant.so_far c.lines_before.ensures c.requires in
     omega (arith, all)
 
 pub returns-in-Err-clause-untyped : goal.returns-in-Err-clause-untyped

@@ -1,4 +1,4 @@
-use Rattle.std.proofs.Common.{◌≡◌, ◌+◌, ◌≤◌, ap, arith, length, sym, ◌∙◌}
+use Rattle.std.proofs.Common.{◌+◌, ◌≤◌, ap, arith, length}
 use Rattle.ir_text.specs.Text.{text}
 use Rattle.ir_file.specs.Lines.{lines_of_blocks}
 use Rattle.ir_file.proofs.Counting.{lines_within}
