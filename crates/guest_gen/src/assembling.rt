@@ -1,6 +1,7 @@
 //! Lines of assembly as bytes.
 
-ghost use Rattle.std.specs.Prelude.{◌≡◌, ◌+◌, ◌<◌, ◌≤◌, length, pos, ◌-ℤ◌, IfOk};
+ghost use Rattle.std.specs.Prelude.{◌≡◌, ◌+◌, ◌<◌, ◌≤◌, length, pos, ◌-ℤ◌, FitsSigned, IfOk};
+ghost use Rattle.std.specs.Int.{w32};
 ghost use Rattle.x86_forms.specs.Spelling.{Spells};
 ghost use Rattle.guest_asm.specs.Assembling.{CanBeWritten, usual};
 ghost use Rattle.guest_gen.specs.declared.line.Line.TheVariants.{Jne};
@@ -19,7 +20,8 @@ const NEAR: u64 = 126;
 fn distance(from: u64, to: u64) -> i32
     requires from { from ≤ 0x7fffffff }
     requires to { to ≤ 0x7fffffff }
-    ensures { result ≡ pos to -ℤ pos from }
+    ensures value { result ≡ pos to -ℤ pos from }
+    ensures fits { FitsSigned w32 result }
 {
     to as i32 - from as i32
 }
@@ -37,7 +39,6 @@ fn written(alloc: Global, instr: Instr) -> Result<Vec<u8>, AllocError>
 }
 
 // JNE at an address to a label before it, in two bytes where they reach, else in six.
-#[tactic(auto, using(crate::proofs::Jumps::near_size, crate::proofs::Jumps::far_size))]
 fn jump_back(alloc: Global, label: u64, at: u64) -> Result<Vec<u8>, AllocError>
     requires behind { label ≤ at }
     requires low { at + 6 ≤ 0x7fffffff }
@@ -47,10 +48,12 @@ fn jump_back(alloc: Global, label: u64, at: u64) -> Result<Vec<u8>, AllocError>
     let cc = Cond::Ne;
     if at - label <= NEAR {
         let rel = distance(at + 2, label);
-        written(alloc, Instr::Jcc { cc, rel })
+        let bytes = written(alloc, Instr::Jcc { cc, rel })?;
+        Ok(bytes)
     } else {
         let rel = distance(at + 6, label);
-        written(alloc, Instr::Jcc { cc, rel })
+        let bytes = written(alloc, Instr::Jcc { cc, rel })?;
+        Ok(bytes)
     }
 }
 

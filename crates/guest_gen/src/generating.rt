@@ -1,6 +1,7 @@
 //! The image of the generated program.
 
-ghost use Rattle.std.specs.Prelude.{◌≡◌, ◌+◌, ◌<◌, ◌≤◌, ◌^◌, length, IfOk};
+ghost use Rattle.std.specs.Prelude.{◌≡◌, ◌+◌, ◌<◌, ◌≤◌, ◌++◌, length, IfOk, OnOk};
+ghost use Rattle.byteorder.specs.Endian.{little_bytes};
 ghost use Rattle.guest_gen.specs.Generated.{IsGenerated, steps};
 
 use crate::assembling::assembled;
@@ -12,14 +13,21 @@ use std::alloc::{AllocError, Global};
 /// Where the first function begins.
 const MAIN: u64 = 0x40_1000;
 
+// Appends the number's eight bytes, the lowest first.
+fn put(bytes: &mut Vec<u8>, n: u64) -> Result<(), AllocError>
+    ensures { OnOk result (bytes.new.items ≡ bytes.old.items ++ little_bytes 8 n) }
+{
+    bytes.extend_from_slice(&n.to_le_bytes())
+}
+
 // What the threads add, eight bytes each.
+#[tactic(auto, using(crate::proofs::Steps::steps_more))]
 fn steps(alloc: Global, number: u32, threads: u32) -> Result<Vec<u8>, AllocError>
     ensures { IfOk result (λ v. v.items ≡ steps number threads) }
 {
     let mut bytes = Vec::new(alloc);
     for i in 0..u64::from(threads) {
-        let step = (u64::from(number) + (1 + i)) % 251 + 1;
-        bytes.extend_from_slice(&step.to_le_bytes())?;
+        put(&mut bytes, (u64::from(number) + (1 + i)) % 251 + 1)?;
     }
     Ok(bytes)
 }
@@ -47,7 +55,7 @@ pub fn generate(
     let main = assembled(alloc, MAIN, &main_lines(threads))?;
     let worker = assembled(alloc, WORKER, &worker_lines(rounds))?;
     let steps = steps(alloc, number, threads)?;
-    row_image(
+    let image = row_image(
         alloc,
         &[
             Piece {
@@ -63,5 +71,6 @@ pub fn generate(
                 bytes: &steps,
             },
         ],
-    )
+    )?;
+    Ok(image)
 }
