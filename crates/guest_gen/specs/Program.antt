@@ -1,9 +1,8 @@
 -- The lines of the generated program. Registers are 0 rax, 1 rcx, 2 rdx, 3 rbx, 6 rsi, 7 rdi, 12 r12 and 13 r13.
-use Rattle.std.specs.Prelude.{ℕ, ℤ, pos, List, [], ◌∷◌, Option, Some, None}
-use Rattle.x86_forms.specs.declared.operands.Width.TheVariants.{W8, W32, W64}
+use Rattle.std.specs.Prelude.{ℕ, pos, List, [], ◌∷◌, Some, None}
+use Rattle.x86_forms.specs.declared.operands.Width.TheVariants.{W32, W64}
 use Rattle.x86_forms.specs.declared.operands.Base.TheVariants as base
 use Rattle.x86_forms.specs.declared.operands.Mem.{Mem}
-use Rattle.x86_forms.specs.declared.operands.Operand.{Operand}
 use Rattle.x86_forms.specs.declared.operands.Operand.TheVariants.{Reg, Imm}
 use Rattle.x86_forms.specs.declared.operands.Operand.TheVariants as operand
 use Rattle.x86_forms.specs.declared.conditions.Cond.TheVariants.{Ne}

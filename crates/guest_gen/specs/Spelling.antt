@@ -1,5 +1,5 @@
 -- How lines of assembly are spelled one after another.
-use Rattle.std.specs.Prelude.{◌≡◌, ℕ, ◌+◌, ◌≤◌, pos, ◌-ℤ◌, List, [], ◌∷◌, length, sum_by, ⊤}
+use Rattle.std.specs.Prelude.{◌≡◌, ℕ, ◌+◌, ◌≤◌, pos, ◌-ℤ◌, List, [], ◌∷◌, length, ⊤}
 use Rattle.std.specs.List.{concat}
 use Rattle.x86_forms.specs.declared.conditions.Cond.TheVariants.{Ne}
 use Rattle.x86_forms.specs.declared.instructions.Instr.TheVariants as instr

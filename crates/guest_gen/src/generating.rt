@@ -38,12 +38,7 @@ fn steps(alloc: Global, number: u32, threads: u32) -> Result<Vec<u8>, AllocError
 /// is `rounds` times the sum of those. The status is 0 where both are the same, else 1.
 ///
 /// It has two segments. The only error is want of memory.
-pub fn generate(
-    alloc: Global,
-    number: u32,
-    threads: u32,
-    rounds: u32,
-) -> Result<Image, AllocError>
+pub fn generate(alloc: Global, number: u32, threads: u32, rounds: u32) -> Result<Image, AllocError>
     requires some_threads { 1 ≤ threads }
     requires threads { threads ≤ 63 }
     requires some_rounds { 1 ≤ rounds }

@@ -195,12 +195,7 @@ pub(crate) fn worker_lines(rounds: u32) -> [Line; 16]
         set(RDI, MUTEX),
         Line::Call(LOCK),
         mov(Operand::Reg(RAX), Operand::Mem(at(GUARDED))),
-        alu(
-            AluOp::Add,
-            Width::W64,
-            Operand::Reg(RAX),
-            Operand::Reg(R12),
-        ),
+        alu(AluOp::Add, Width::W64, Operand::Reg(RAX), Operand::Reg(R12)),
         mov(Operand::Mem(at(GUARDED)), Operand::Reg(RAX)),
         set(RDI, MUTEX),
         Line::Call(UNLOCK),

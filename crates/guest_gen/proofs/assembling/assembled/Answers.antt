@@ -1,7 +1,7 @@
-use Rattle.std.proofs.Common.{◌≡◌, ℕ, ◌+◌, ◌≤◌, List, length, drop, get_or, arith, sym, ap, subst, ◌∙◌, ◌∷◌, [], ◌++◌}
+use Rattle.std.proofs.Common.{◌≡◌, ℕ, ◌+◌, List, length, drop, get_or, arith, sym, ap, subst, ◌∙◌, ◌∷◌, [], ◌++◌}
 use Rattle.std.proofs.lemmas.List.{drop_more, drop_all, length-append}
 use Rattle.guest_gen.specs.declared.line.Line.TheVariants.{Label}
-use Rattle.guest_gen.specs.Spelling.{SpellsLine, label_after, most, most_of}
+use Rattle.guest_gen.specs.Spelling.{SpellsLine, label_after}
 use Rattle.guest_gen.proofs.Lines.{Rest, rest_init, rest_more, rest_end, most_left, can_left, label_behind}
 use Rattle.guest_gen.proofs.assembling.assembled.Goals as goal
 

@@ -1,5 +1,5 @@
 -- Whatever strings spell the lines that are left, those so far and they spell all lines.
-use Rattle.std.proofs.Common.{◌≡◌, ◌+◌, ◌≤◌, length, drop}
+use Rattle.std.proofs.Common.{◌+◌, ◌≤◌, length, drop}
 use Rattle.std.specs.List.{AllByRecursion}
 use Rattle.guest_gen.specs.Spelling.{CanStand, most_of}
 use Rattle.guest_gen.proofs.Lines.{Rest}
