@@ -1,6 +1,6 @@
 //! The text of the register language, both ways.
 //!
-//! `print` writes a list of blocks as text, and `parse` reads it back, or says the first place at which a text stops being
+//! `print` writes a list of blocks as text, and `parse`, or `parse_bytes` of bytes, reads it back, or says the first place at which a text stops being
 //! the beginning of one. Their contracts cite `text` and `HasText` of `specs/Text.antt`, the one spelling of a list of
 //! blocks, and `IsPlace` of `specs/Faults.antt`; `one_text` says that no two lists share a text. docs/IR.md has the grammar.
 //!
@@ -24,7 +24,7 @@ mod words;
 
 pub use fault::{TextFailure, TextFault};
 pub use printing::print;
-pub use reading::parse;
+pub use reading::{parse, parse_bytes};
 
 /// Two lists of blocks with the same text are equal.
 pub fn one_text()

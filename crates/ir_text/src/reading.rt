@@ -31,7 +31,26 @@ pub fn parse(alloc: Global, text: &str) -> Result<Vec<Block>, TextFailure>
     // Where there is such a place it is refused, unless memory runs out.
     ensures refused { (n : ℕ) → IsPlace text.now n → IsRefused (take n text.now) result }
 {
-    let bytes = text.as_bytes();
+    parse_bytes(alloc, text.as_bytes())
+}
+
+/// The blocks that these bytes spell, in order: [`parse`] of bytes that needn't be UTF-8. The grammar is ASCII, so a byte that
+/// isn't is the place at which they stop being the beginning of a text, unless an earlier one is.
+///
+/// # Errors
+///
+/// `Fault` exactly where the bytes are no text of the grammar, with the first place at which they stop being the beginning of
+/// one; `Memory` where the blocks found no memory.
+pub fn parse_bytes(alloc: Global, bytes: &[u8]) -> Result<Vec<Block>, TextFailure>
+    // What is read is spelled so, all of the bytes.
+    ensures found { IfOk result (λ v. All HasText v.items × (bytes.now ≡ text_of v.items)) }
+    // What is spelled so is read, unless memory runs out.
+    ensures only { (blocks : List BlockData) → All HasText blocks → bytes.now ≡ text_of blocks → AreRead blocks result }
+    // A fault stands at the first place at which the bytes stop being the beginning of a text.
+    ensures fault { IfErr result (λ e. FaultAt bytes.now e) }
+    // Where there is such a place they are refused, unless memory runs out.
+    ensures refused { (n : ℕ) → IsPlace bytes.now n → IsRefused (take n bytes.now) result }
+{
     match blocks_of(alloc, bytes) {
         Ok(found) => Ok(found),
         Err(Stop::Memory(e)) => Err(TextFailure::Memory(e)),

@@ -1,4 +1,4 @@
-use crate::{TextFailure, one_text, parse, prefixes, print};
+use crate::{TextFailure, one_text, parse, parse_bytes, prefixes, print};
 use std::alloc::Global;
 use std::process::Abort;
 
@@ -163,5 +163,28 @@ fn refuses_texts(rt: HostRuntime) {
         ("ir 1\nblock 0x1 -\ntick\nend\ntick\n", 5, 1),
     ] {
         assert_fault(&rt, rt.alloc(), text, line, column);
+    }
+}
+
+#[test]
+fn refuses_bytes(rt: HostRuntime) {
+    let rows: [(&[u8], u64, u64); 4] = [
+        (b"ir 2\n\xff", 1, 4),
+        (b"ir 1\n\xff", 2, 1),
+        (b"ir 1\nblock 0x1 -\ntick\nend\n\xc3", 5, 1),
+        (b"ir 1\nblock 0x1 -\ntic\x80\n", 3, 4),
+    ];
+    for (bytes, line, column) in rows.iter() {
+        match parse_bytes(rt.alloc(), *bytes) {
+            Ok(_) => panic!(rt; "read {bytes:?}"),
+            Err(TextFailure::Fault(fault)) => {
+                assert_eq!(rt;
+                    (fault.line, fault.column),
+                    (*line, *column),
+                    "at {bytes:?}"
+                );
+            }
+            Err(TextFailure::Memory(_)) => panic!(rt; "no memory"),
+        }
     }
 }

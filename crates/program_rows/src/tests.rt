@@ -7,6 +7,7 @@ mod plans;
 mod programs;
 mod refusals;
 mod runs;
+mod texts;
 mod workers;
 
 use mx_outside::{MemoryFiles, MemorySink, MemorySource};
@@ -57,13 +58,14 @@ enum Written {
     Both(&'static str),
 }
 
-/// A call: the file `p`, if there is one, the words in one line, the input, and what fails. Then what it leaves: the exit status, the bytes
+/// A call: the file `p`, if there is one, the file `i`, if there is one, the words in one line, the input, and what fails. Then what it leaves: the exit status, the bytes
 /// in both sinks, the journal, the files, and how many bytes of the input, where that is promised. The sinks take one byte a
 /// call.
 #[derive(Clone, Copy)]
 struct Row {
     name: &'static str,
     file: Option<Bytes>,
+    text: Option<Bytes>,
     words: &'static str,
     input: Bytes,
     failing: Failing,
@@ -79,6 +81,7 @@ struct Row {
 const RUN: Row = Row {
     name: "exit",
     file: Some(EXITS),
+    text: None,
     words: "run p --serial --journal j --report r",
     input: Bytes::Text(""),
     failing: NEVER,
@@ -129,6 +132,9 @@ fn files_of(alloc: Global, row: &Row) -> Result<MemoryFiles, Fail> {
     names.insert(String::from_str(alloc, "k")?, Vec::from_slice(alloc, KEPT)?)?;
     if let Some(file) = row.file {
         names.insert(String::from_str(alloc, "p")?, bytes_of(alloc, file)?)?;
+    }
+    if let Some(text) = row.text {
+        names.insert(String::from_str(alloc, "i")?, bytes_of(alloc, text)?)?;
     }
     let failing = Vec::from_slice(alloc, row.failing.files)?;
     Ok(MemoryFiles::make(alloc, names, failing))
@@ -241,8 +247,17 @@ fn assert_files<R: Abort>(rt: &R, alloc: Global, row: &Row, left: &Left) -> Resu
             assert_file(rt, row, &left.files, "p", Some(&program));
         }
     }
+    if let Some(text) = row.text {
+        let blocks = bytes_of(alloc, text)?;
+        assert_file(rt, row, &left.files, "i", Some(&blocks));
+    }
     let mut count = 1usize;
-    for is_there in [row.file.is_some(), j.is_some(), r.is_some()] {
+    for is_there in [
+        row.file.is_some(),
+        row.text.is_some(),
+        j.is_some(),
+        r.is_some(),
+    ] {
         count = count.saturating_add(is_there as usize);
     }
     assert_eq!(rt; left.files.names().len(), count, "{}: files", row.name);

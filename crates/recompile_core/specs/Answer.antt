@@ -1,5 +1,5 @@
 -- What is answered: the case, the journal, and the ending of the machine.
-use Rattle.std.specs.Prelude.{◌≡◌, ℕ, ◌≤◌, List, ◌++◌, length, Option, Some, IfSome, IsSome, IsNone, ⊤}
+use Rattle.std.specs.Prelude.{◌≡◌, ℕ, List, ◌++◌, Option, Some, IfSome, IsSome, IsNone, ⊤}
 use Rattle.endings.specs.declared.ending.Ending.{Ending}
 use Rattle.endings.specs.declared.ending.Ending.TheVariants.{Absent, Done, Image, IrText, Memory, ReadFault, Report, Run, Stale, TooLong, TooMany, Twice, Usage, WriteFault}
 use Rattle.endings.specs.Ending.{line_of}
@@ -14,7 +14,7 @@ use Rattle.mx_outside.specs.Names.{NameMap}
 use Rattle.ir_runner.specs.Outputs.{Gains, Written}
 use Rattle.ir_runner.specs.Runs.{BeginsSerial}
 use Rattle.run_start.specs.Case.{IsCaseOf}
-use Rattle.run_start.specs.Refusal.{IsFile, file_limit}
+use Rattle.run_start.specs.Refusal.{HasFile}
 use Rattle.recompile_core.specs.declared.plan.Task.{Task}
 
 -- ---- the case
@@ -37,12 +37,11 @@ HasCase TooMany case = IsNone case
 HasCase WriteFault case = IsSome case
 
 -- The case of the run of a task, where these are the files' names and this is left of the input: that of the bytes that the
--- program's file has.
+-- program's file has, and of the text of blocks, where one is named.
 pub record IsCaseOfTask (names : Option NameMap) (left : Option (List ℕ)) (task : Task) (c : CaseData) : Type 0 where
   pub bytes : List ℕ
-  pub file : IsFile names task.prog bytes
-  pub within : length bytes ≤ file_limit
-  pub case : IsCaseOf bytes task.args left task.steps task.strict c
+  pub file : HasFile names task.prog bytes
+  pub case : IsCaseOf names task.ir bytes task.args left task.steps task.strict c
 
 -- ---- the headline
 

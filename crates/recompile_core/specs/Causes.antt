@@ -14,7 +14,7 @@ counts_of f g i j = record { files_before = f.reads; files_now = g.reads; input_
 
 -- the task can't be begun
 abbrev pub RefusesTask : World → Task → StartFault → Type 0
-RefusesTask w task fault = Refuses w.files.names task.prog task.args w.input.left (counts_of w.files w.files_after w.input w.input_after) fault
+RefusesTask w task fault = Refuses w.files.names task.prog task.args task.ir w.input.left (counts_of w.files w.files_after w.input w.input_after) fault
 
 -- no count of faults rose
 pub record NoneRose (w : World) : Type 0 where
@@ -32,11 +32,11 @@ CauseOf w task (Usage fault) = ⊥
 CauseOf w task (Image number) = RefusesTask w task (start.Image number)
 CauseOf w task ReadFault = RefusesTask w task start.ReadFault
 CauseOf w task Absent = RefusesTask w task start.Absent
-CauseOf w task (IrText fault) = ⊥
-CauseOf w task (Stale address file lifted) = ⊥
+CauseOf w task (IrText fault) = RefusesTask w task (start.IrText fault)
+CauseOf w task (Stale address file lifted) = RefusesTask w task (start.Stale address file lifted)
 CauseOf w task (Report fault) = ⊥
 CauseOf w task TooLong = RefusesTask w task start.TooLong
 CauseOf w task Memory = ⊤
-CauseOf w task (Twice address) = ⊥
+CauseOf w task (Twice address) = RefusesTask w task (start.Twice address)
 CauseOf w task TooMany = RefusesTask w task start.TooMany
 CauseOf w task WriteFault = Rose w.out.before w.out.now ⊎ (Rose w.err.before w.err.now ⊎ Rose w.files.writes w.files_after.writes)

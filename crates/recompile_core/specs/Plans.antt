@@ -3,18 +3,17 @@ use Rattle.std.specs.Prelude.{◌≡◌, ◌<◌, ◌≤◌, if◌then◌else◌
 use Rattle.words_line.specs.declared.plan.Plan.{Plan}
 use Rattle.words_line.specs.declared.plan.Plan.TheVariants.{Gen, Lift, Run}
 use Rattle.words_line.specs.declared.plan.WordsFault.{WordsFault}
-use Rattle.words_line.specs.declared.plan.WordsFault.TheVariants.{Line, UnknownCommand}
+use Rattle.words_line.specs.declared.plan.WordsFault.TheVariants.{UnknownCommand}
 use Rattle.machine_model.specs.Serial as serial
 use Rattle.recompile_core.specs.declared.plan.RunPlan.{RunPlan}
 
 -- The run that a plan asks for; the program's arguments begin with its file's name. Until they are built, `lift` and `gen`
--- are no commands, and a run takes no blocks.
+-- are no commands.
 abbrev pub run_of : Plan → Result RunPlan WordsFault
 run_of (Lift prog base misses) = Err UnknownCommand
 run_of (Gen number threads rounds name) = Err UnknownCommand
-run_of (Run prog (Some ir) strict serial turn hold steps report journal args) = Err Line
-run_of (Run prog None strict serial turn hold steps report journal args) =
-    Ok (record { task = record { prog = prog; args = prog ∷ args; steps = steps; strict = strict }; serial = serial; turn = turn; hold = hold; journal = journal; report = report })
+run_of (Run prog ir strict serial turn hold steps report journal args) =
+    Ok (record { task = record { prog = prog; args = prog ∷ args; ir = ir; steps = steps; strict = strict }; serial = serial; turn = turn; hold = hold; journal = journal; report = report })
 
 -- the run that the words ask for, or what is wrong with them
 abbrev pub plan_of_run : Result Plan WordsFault → Result RunPlan WordsFault

@@ -32,7 +32,7 @@ use Rattle.recompile_core.specs.After.{IfFailure, FilesAfter, InputRead, IsRefus
 use Rattle.recompile_core.specs.Plans.{order_of, run_of}
 use Rattle.recompile_core.specs.World.{FilesNow, World}
 
--- the plan is none to run a program without blocks, or memory was wanting
+-- the plan is none to run a program, or memory was wanting
 abbrev pub RefusesPlan : Plan → Ending → Type 0
 RefusesPlan plan e = (e ≡ Memory) ⊎ ((fault : WordsFault) × (run_of plan ≡ Err fault) × (e ≡ Usage fault))
 
@@ -41,6 +41,9 @@ abbrev pub ending_of : StartFault → Ending
 ending_of (start.Image number) = Image number
 ending_of start.ReadFault = ReadFault
 ending_of start.Absent = Absent
+ending_of (start.IrText fault) = IrText fault
+ending_of (start.Stale address file lifted) = Stale address file lifted
+ending_of (start.Twice address) = Twice address
 ending_of start.TooLong = TooLong
 ending_of start.TooMany = TooMany
 ending_of (start.Memory e) = Memory

@@ -89,7 +89,7 @@ pub(crate) fn carry_out<F: Files, I: Source, O: Sink, E: Sink, N: Engine>(
     }
 }
 
-/// Carries out a plan to run a program without blocks in the serial order, and returns. What the answer says of the run is told
+/// Carries out a plan to run a program in the serial order, and returns. What the answer says of the run is told
 /// in `specs/Runs.antt` (`IsAnswer`).
 ///
 /// - The case, where there is one, is that of the plan and of the bytes that were read; the journal is that of the serial order,
@@ -110,7 +110,7 @@ pub fn recompile_plain<F: Files, I: Source, O: Sink, E: Sink, N: Engine>(
     err: &mut E,
     engine: &mut N,
 ) -> Answer
-    // The plan is a run in the serial order without blocks, and its numbers are in their ranges.
+    // The plan is a run in the serial order, and its numbers are in their ranges.
     requires run { IsOkAnd (run_of plan) IsPlain }
     ensures status { result.status ≡ status_of result.ending }
     ensures answer { IfOk (run_of plan) (λ p. IsAnswer (record { files = files_now F.names F.read_faults F.write_faults files.old; files_after = files_now F.names F.read_faults F.write_faults files.new; input = input_now I.left I.faults input.old; input_after = input_now I.left I.faults input.new; out = written O.faults O.held out.old out.new; err = written E.faults E.held err.old err.new }) p result) }

@@ -8,11 +8,13 @@ use endings::Ending;
 use std::alloc::{AllocError, Global};
 use words_line::{Plan, Text, Texts, WordsFault};
 
-/// What is run: the program's file, its arguments, that file's name first, the limit of steps, and whether a miss ends the run.
+/// What is run: the program's file, its arguments, that file's name first, the text of blocks with which it begins, if one is
+/// named, the limit of steps, and whether a miss ends the run.
 #[derive(Drop)]
 pub(crate) struct Task {
     pub(crate) prog: Text,
     pub(crate) args: Texts,
+    pub(crate) ir: Option<Text>,
     pub(crate) steps: u64,
     pub(crate) strict: bool,
 }
@@ -43,17 +45,16 @@ fn with_first(alloc: Global, word: &Text, words: Texts) -> Result<Texts, AllocEr
 ///
 /// # Errors
 ///
-/// `Usage` where the plan is none to run a program without blocks, `Memory` where memory is wanting.
+/// `Usage` where the plan is none to run a program, `Memory` where memory is wanting.
 pub(crate) fn run_of(alloc: Global, plan: Plan) -> Result<RunPlan, Ending>
     ensures run { IfOk result (λ p. run_of plan ≡ Ok p) }
     ensures refusal { IfErr result (RefusesPlan plan) }
 {
     match plan {
         Plan::Lift { .. } | Plan::Gen { .. } => Err(Ending::Usage(WordsFault::UnknownCommand)),
-        Plan::Run { ir: Some(_), .. } => Err(Ending::Usage(WordsFault::Line)),
         Plan::Run {
             prog,
-            ir: None,
+            ir,
             strict,
             serial,
             turn,
@@ -70,6 +71,7 @@ pub(crate) fn run_of(alloc: Global, plan: Plan) -> Result<RunPlan, Ending>
                 task: Task {
                     prog,
                     args,
+                    ir,
                     steps,
                     strict,
                 },

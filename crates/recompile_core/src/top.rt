@@ -25,7 +25,7 @@ use words_line::{WordsError, read_words};
 
 /// Carries out the words of a command, those after the program's own name.
 ///
-/// `Usage` comes exactly where the words ask for no run of a program without blocks, with what is wrong with them; then nothing
+/// `Usage` comes exactly where the words ask for no run of a program, with what is wrong with them; then nothing
 /// is read. A run with `--serial` is as `recompile_plain` says of the words' plan. A run without it is made by workers, one for
 /// each guest thread, in a thread of the operating system where one can be started; the gate is passed before each entry, outside
 /// the lock. All is said of it that is said of a serial run but that its journal is the serial order's: it is played and gated,

@@ -22,7 +22,7 @@ use Rattle.run_start.specs.First.{AreCodePlaces, AreLifted, IsLifted}
 
 -- ---- places
 
-all_code : (image : ImageData) (places : List ℕ) → ((a : ℕ) → is_among places a ≡ true → is_code_place image a ≡ true) → AreCodePlaces image places
+pub all_code : (image : ImageData) (places : List ℕ) → ((a : ℕ) → is_among places a ≡ true → is_code_place image a ≡ true) → AreCodePlaces image places
 all_code image [] h = tt
 all_code image (a ∷ places) h = (h a (among_head a places), all_code image places (λ b m. h b (among_tail a places (a ∷ places) (λ c n. n) b m)))
 

@@ -60,5 +60,13 @@ pub record LayFails (bytes : List ℕ) (args : List (List ℕ)) (n : ℕ) : Type
   pub first : lay.FaultsAt image args fault
   pub number : lay_number fault ≡ Some n
 
+abbrev pub IsUnbound : List ℕ → ℕ → Type 0
+IsUnbound bytes n = LoadFails bytes n ⊎ LinkFails bytes n
+
 abbrev pub IsNoImage : List ℕ → List (List ℕ) → ℕ → Type 0
-IsNoImage bytes args n = LoadFails bytes n ⊎ (LinkFails bytes n ⊎ LayFails bytes args n)
+IsNoImage bytes args n = IsUnbound bytes n ⊎ LayFails bytes args n
+
+-- the program is read, and can be put into memory with these arguments
+pub record IsRead (bytes : List ℕ) (args : List (List ℕ)) (image : ImageData) : Type 0 where
+  pub program : IsProgram bytes image
+  pub accepted : lay.IsAccepted image args

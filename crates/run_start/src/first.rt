@@ -1,8 +1,9 @@
 //! The shared state of a run that begins.
 
-ghost use Rattle.std.specs.Prelude.{◌≡◌, ◌≤◌, ◌^◌, [], ◌∷◌, length, IfOk, IsTrue};
+ghost use Rattle.std.specs.Prelude.{◌≡◌, ◌≤◌, ◌^◌, [], length, IfOk, IsTrue};
+ghost use Rattle.std.specs.List.Sorted.{IsStrictlySortedBy};
+ghost use Rattle.std.specs.Ordering.{nat_cmp};
 ghost use Rattle.basic_blocks.specs.Places.{is_code_place};
-ghost use Rattle.basic_blocks.specs.Reach.{IsReach};
 ghost use Rattle.guest_map.specs.Layout.{start_of};
 ghost use Rattle.run_start.specs.First.{AreCodePlaces, AreLifted, IsLifted};
 
@@ -41,7 +42,7 @@ fn lifted(
     Ok(blocks)
 }
 
-/// Lifts the blocks at the places that are reached from the entry, and makes the shared state before the first step of the
+/// Lifts the blocks at the first places of the run, and makes the shared state before the first step of the
 /// run: they are grown, nothing else is, the journal is empty, and memory is the first memory of the program.
 ///
 /// # Errors
@@ -49,7 +50,8 @@ fn lifted(
 /// Memory is wanting.
 pub fn open(alloc: Global, prepared: Prepared) -> Result<Hall<Block>, AllocError>
     requires limit { prepared.case.limit ≤ 2 ^ 27 }
-    requires reach { IsReach prepared.case.image (prepared.case.image.entry ∷ []) prepared.case.first }
+    requires places { AreCodePlaces prepared.case.image prepared.case.first }
+    requires rising { IsStrictlySortedBy nat_cmp prepared.case.first }
     requires few { length prepared.case.first ≤ 65536 }
     requires start { prepared.start ≡ start_of prepared.case.image prepared.case.args }
     ensures case { IfOk result (λ h. h.case ≡ prepared.case) }

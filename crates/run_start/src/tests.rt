@@ -16,20 +16,21 @@ fn told(alloc: Global, file: Option<&[u8]>, failing: &[u64]) -> Result<String, A
     let mut files = MemoryFiles::make(alloc, names, Vec::from_slice(alloc, failing)?);
     let mut input = MemorySource::make(Vec::new(alloc), Vec::new(alloc), 1);
     let args = Vec::new(alloc);
-    match prepare(alloc, "p1", args, 1000, true, &mut files, &mut input) {
+    let none = None;
+    match prepare(alloc, "p1", args, &none, 1000, true, &mut files, &mut input) {
         Ok(_) => String::from_str(alloc, "prepared"),
         Err(StartFault::Memory(e)) => Err(e),
-        Err(fault) => format!(in alloc; "{fault}"),
+        Err(fault) => format!(in alloc; "{fault:?}"),
     }
 }
 
 #[test]
 fn files_that_cant_be_run(rt: HostRuntime) {
     let rows: [(Option<&[u8]>, &[u64], &str); 4] = [
-        (None, &[], "the file isn't there"),
-        (None, &[1], "a file or the input can't be read"),
-        (Some(&[0x7f, 0x45, 0x4c]), &[], "image fault 1"),
-        (Some(&[0; 64]), &[], "image fault 2"),
+        (None, &[], "Absent"),
+        (None, &[1], "ReadFault"),
+        (Some(&[0x7f, 0x45, 0x4c]), &[], "Image(1)"),
+        (Some(&[0; 64]), &[], "Image(2)"),
     ];
     for (file, failing, line) in rows.iter() {
         let Ok(text) = told(rt.alloc(), *file, failing) else {

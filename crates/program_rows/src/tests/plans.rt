@@ -13,7 +13,7 @@ fn text(alloc: Global, word: &str) -> Result<Text, AllocError> {
     Ok(Text::from_string(String::from_str(alloc, word)?))
 }
 
-// A run in the serial order without blocks, whose numbers are in their ranges.
+// A run in the serial order, whose numbers are in their ranges.
 fn plan(alloc: Global) -> Result<Plan, AllocError>
     ensures { IfOk result (λ p. IsOkAnd (run_of p) IsPlain) }
 {
