@@ -1,9 +1,11 @@
 //! The assembler.
 
 ghost use Rattle.std.specs.Prelude.{◌≡◌, true, IfOk, IfSome, IfNone};
-ghost use Rattle.x86_forms.specs.Spelling.{Spells};
+ghost use Rattle.x86_forms.specs.Spelling.{bytes_of, Spells};
+ghost use Rattle.guest_asm.specs.Choices.{pieces};
 ghost use Rattle.guest_asm.specs.Encodable.{can};
-ghost use Rattle.guest_asm.specs.Assembling.{HasNoSpelling};
+ghost use Rattle.guest_asm.specs.Pieces.{parts_of};
+ghost use Rattle.guest_asm.specs.Assembling.{HasNoSpelling, CanBeWritten, usual};
 
 mod choices;
 mod encodable;
@@ -20,7 +22,9 @@ use x86_forms::Instr;
 // can be.
 fn without_rex(instr: Instr) -> Option<bool>
     ensures taken { IfSome result (λ no_rex. can no_rex instr ≡ true) }
+    ensures first { IfSome result (λ no_rex. no_rex ≡ can true instr) }
     ensures none { IfNone result (HasNoSpelling instr) }
+    ensures refused { IfNone result (CanBeWritten instr → ⊥) }
 {
     if can(true, instr) {
         Some(true)
@@ -34,7 +38,8 @@ fn without_rex(instr: Instr) -> Option<bool>
 // The bytes of an instruction that has a spelling.
 fn written(alloc: Global, no_rex: bool, instr: Instr) -> Result<Vec<u8>, AllocError>
     requires { can no_rex instr ≡ true }
-    ensures { IfOk result (λ s. Spells instr s.items) }
+    ensures spells { IfOk result (λ s. Spells instr s.items) }
+    ensures usual { IfOk result (λ s. s.items ≡ bytes_of (parts_of (pieces no_rex instr))) }
 {
     typed(instr);
     let bytes = pieces(no_rex, instr).bytes(alloc)?;
@@ -50,6 +55,9 @@ fn written(alloc: Global, no_rex: bool, instr: Instr) -> Result<Vec<u8>, AllocEr
 pub fn assemble(alloc: Global, instr: &Instr) -> Result<Option<Vec<u8>>, AllocError>
     ensures spelled { IfOk result (λ o. IfSome o (λ s. Spells instr.now s.items)) }
     ensures none { IfOk result (λ o. IfNone o (HasNoSpelling instr.now)) }
+    // It is the usual spelling, and an instruction that can be put together has one.
+    ensures usual { IfOk result (λ o. IfSome o (λ s. s.items ≡ usual instr.now)) }
+    ensures refused { IfOk result (λ o. IfNone o (CanBeWritten instr.now → ⊥)) }
 {
     let instr = *instr;
     match without_rex(instr) {

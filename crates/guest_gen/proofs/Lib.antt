@@ -1,0 +1,4 @@
+pub mod Jumps
+pub mod Lines
+pub mod Steps
+pub mod Sizes
