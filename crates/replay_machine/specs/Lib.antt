@@ -1,2 +1,3 @@
--- The machine at one moment, and a store that finds no room.
+-- The machine at one moment, a store that finds no room, and what the machine shows of its threads.
 pub mod Machines
+pub mod Views

@@ -1,5 +1,5 @@
 -- What the machine keeps, and a store that finds no room.
-use Rattle.std.specs.Prelude.{◌≡◌, ℕ, ◌<◌, ◌≤◌, ◌^◌, Bool, true, false, nat_le, List, length, Option, Some, None, IfNone, option_map}
+use Rattle.std.specs.Prelude.{◌≡◌, ℕ, ◌<◌, ◌^◌, Bool, false, nat_le, length, Option, Some, None, IfNone, option_map}
 use Rattle.lib_table.specs.declared.ask.Asked.{Asked}
 use Rattle.lib_table.specs.Steps.{CanAsk}
 use Rattle.x86_model.specs.declared.cpu.Cpu.{Cpu}

@@ -20,7 +20,9 @@ mod machine;
 mod making;
 mod standing;
 mod thread_core;
+mod view;
 mod want;
 
 pub use machine::{Machine, slot_in};
+pub use view::{ThreadView, Threads, Writes};
 pub use want::next_want;

@@ -3,3 +3,4 @@
 mod following;
 mod programs;
 mod rows;
+mod views;

@@ -11,6 +11,8 @@ use Rattle.machine_model.proofs.Costs.{bounded}
 use Rattle.machine_model.proofs.Gates.{leads_play}
 use Rattle.replay_view.specs.Follow.{Follows, HasTaken, IsTaken, IsWalked, TakesOne, WalkData}
 use Rattle.replay_machine.specs.Machines.{CanServe}
+use Rattle.replay_view.specs.declared.view.View.{View}
+use Rattle.replay_view.specs.Views.{IsViewAfter, view_of}
 
 -- what is followed is gated
 pub leads : (c : CaseData) (b n : Both) (es : List Entry) → Follows c b es n → Leads c b es n
@@ -54,3 +56,9 @@ few_taken w h =
 
 pub walked_at_start : (c : CaseData) (w : WalkData) → w.case ≡ c → w.both ≡ begin c → w.taken ≡ 0 → c.limit ≤ 2 ^ 27 → IsWalked w
 walked_at_start c w case both taken limit = record { entries = []; taken = at_start c w case both taken; limit = subst (λ (x : CaseData). x.limit ≤ 2 ^ 27) (sym case) limit }
+
+-- what the walker shows is the view after the entries that it has taken
+pub shown : (c : CaseData) (w : WalkData) (entries : List Entry) (view : View) → HasTaken w entries → w.case ≡ c → view ≡ view_of w.both → IsViewAfter c entries view
+shown c w entries view h case shows =
+    let follows : Follows c (begin c) entries w.both = subst (λ x. Follows x (begin x) entries w.both) case h.follows in
+    record { both = w.both; follows = follows; machine = leads_play c w.both entries (leads c (begin c) w.both entries follows); shows = shows }

@@ -6,3 +6,4 @@ pub mod Follow
 pub mod Moments
 pub mod Verdicts
 pub mod Faults
+pub mod Views

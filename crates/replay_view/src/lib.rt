@@ -3,7 +3,8 @@
 //!
 //! A [`Walker`] takes one entry after another ([`Walker::step`]): it refuses one that is no step of the machine, one that
 //! runs, misses or grows what it may not, and a store of a thread with 64 waiting writes, and is as before then.
-//! [`walk_to`] takes the first n entries of a journal. Contracts cite `step`, `advance` and `IsAllowed` of
+//! [`walk_to`] takes the first n entries of a journal, and [`follow`] answers the [`View`] after them: the live and ended
+//! threads with registers, flags and waiting writes (`specs/Views.antt`). Contracts cite `step`, `advance` and `IsAllowed` of
 //! `machine_model`: `Follows` (`specs/Follow.antt`) says which entries are taken from a moment on, `Fits` why one isn't, and
 //! `FollowFaults` (`specs/Faults.antt`) that the fault of a journal is that of its first such entry.
 //!
@@ -17,7 +18,7 @@
 #![tactic(auto)]
 
 mod fault;
-mod follow;
+mod following;
 mod gate;
 mod grown;
 pub mod laws;
@@ -25,8 +26,11 @@ mod moment;
 mod private_step;
 mod reached;
 mod rest;
+mod view;
 mod walker;
 
 pub use fault::{EntryFault, FollowFault, StepFault};
-pub use follow::walk_to;
+pub use following::{follow, walk_to};
+pub use replay_machine::{ThreadView, Threads, Writes};
+pub use view::View;
 pub use walker::Walker;

@@ -7,10 +7,12 @@ ghost use Rattle.machine_model.specs.State.{thread_in};
 ghost use Rattle.machine_model.specs.Step.{cpu_at};
 ghost use Rattle.replay_view.specs.Follow.{HasTaken, TakesOne};
 ghost use Rattle.replay_view.specs.Faults.{FitsStep};
+ghost use Rattle.replay_view.specs.Views.{view_of};
 
 use crate::fault::{EntryFault, StepFault};
 use crate::moment::{Moment, Verdict};
 use crate::reached::Reached;
+use crate::view::View;
 use machine_model::Entry;
 use machine_model::case::Case;
 use machine_model::ending::RunEnd;
@@ -109,6 +111,23 @@ impl<'c> Walker<'c> {
         ensures { result ≡ cpu_at self.now.both.machine s }
     {
         self.moment.machine().cpu(s)
+    }
+
+    /// What stands after the entries that were taken.
+    ///
+    /// # Errors
+    ///
+    /// Memory is wanted for the threads and their waiting writes.
+    pub fn view(&self, alloc: Global) -> Result<View, AllocError>
+        ensures { IfOk result (λ view. view ≡ view_of self.now.both) }
+    {
+        let threads = self.moment.machine().threads(alloc)?;
+        Ok(View {
+            steps: self.steps(),
+            grown: self.grown(),
+            ending: self.ending(),
+            threads,
+        })
     }
 
     /// Takes the journal's next entry, where it is a step that may come, grows within the rule, and finds room. `Entry`

@@ -60,7 +60,7 @@ pub fn case(alloc: Global, start: Start<'_>) -> Result<Case, Fail>
 }
 
 // Whether the image and the arguments can be laid out.
-fn is_laid_out(alloc: Global, case: &Case) -> bool
+pub fn is_laid_out(alloc: Global, case: &Case) -> bool
     ensures { result ≡ true → IsAccepted case.now.image case.now.args }
 {
     match lay_out(alloc, case.image(), &case.args) {

@@ -1,4 +1,4 @@
-use Rattle.std.proofs.Common.{refl, sym, ap, ◌∙◌, ◌≡◌, map, slice_set, replicate, []}
+use Rattle.std.proofs.Common.{refl, ap, ◌∙◌, ◌≡◌, map, slice_set, replicate, []}
 use Rattle.std.specs.Prelude.{string_bytes}
 use Rattle.guest_map.specs.Layout.{start_of as map_start}
 use Rattle.machine_model.specs.CaseData.{CaseData}

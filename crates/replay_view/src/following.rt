@@ -6,8 +6,10 @@ ghost use Rattle.machine_model.specs.Gated.{Both, begin};
 ghost use Rattle.replay_view.specs.declared.fault.FollowFault.TheVariants as follow_fault;
 ghost use Rattle.replay_view.specs.Faults.{FollowFaults, following};
 ghost use Rattle.replay_view.specs.Follow.{Follows, HasTaken};
+ghost use Rattle.replay_view.specs.Views.{IsViewAfter};
 
 use crate::fault::{FollowFault, StepFault};
+use crate::view::View;
 use crate::walker::Walker;
 use journal_pack::Journal;
 use machine_model::case::Case;
@@ -56,4 +58,29 @@ pub fn walk_to<'c>(
         }
     }
     Ok(walker)
+}
+
+/// What stands after the first `n` entries of a journal: the view of the machine that its entries lead to, each of them a
+/// step that may come.
+///
+/// # Errors
+///
+/// Those of [`walk_to`]: `PastEnd` exactly where the journal has fewer entries, tried first; else `Entry`, exactly where one
+/// of them can't be followed, with the place of the first such; `Memory` where memory ran out. The case's image and arguments
+/// can be laid out, and its limit of steps is at most 2^27 = 134,217,728.
+pub fn follow(alloc: Global, case: &Case, journal: &Journal, n: u64) -> Result<View, FollowFault>
+    requires accepted { IsAccepted case.now.image case.now.args }
+    requires limit { case.now.limit ≤ 2 ^ 27 }
+    ensures view { IfOk result (IsViewAfter case.now (take n journal.now)) }
+    ensures within { OnOk result (n ≤ length journal.now) }
+    ensures fault { IfErr result (FollowFaults case.now journal.now n) }
+{
+    let walker = match walk_to(alloc, case, journal, n) {
+        Ok(walker) => walker,
+        Err(fault) => return Err(fault),
+    };
+    match walker.view(alloc) {
+        Ok(view) => Ok(view),
+        Err(e) => Err(FollowFault::Memory(e)),
+    }
 }

@@ -1,6 +1,6 @@
 use Rattle.std.proofs.Common.{◌≡◌, ◌≤◌, take, drop}
 use Rattle.replay_view.specs.Follow.{HasTaken}
-use Rattle.replay_view.proofs.follow.walk_to.Given as goal
+use Rattle.replay_view.proofs.following.walk_to.Given as goal
 
 -- the entries so far were taken, and the others are left
 abbrev pub invariant-loop-entry : goal.invariant-loop-entry

@@ -1,7 +1,7 @@
 use Rattle.std.proofs.Common.{◌≡◌, ◌∙◌, ◌∷◌, ◌<◌, ◌≤◌, arith, drop, length, subst, sym}
 use Rattle.replay_view.specs.Faults.{FollowFaults}
 use Rattle.replay_view.proofs.Journals.{fault_here, next_left, next_taken}
-use Rattle.replay_view.proofs.follow.walk_to.Goals as goal
+use Rattle.replay_view.proofs.following.walk_to.Goals as goal
 
 pub loop-entry-preserved : goal.loop-entry-preserved
 loop-entry-preserved c =
