@@ -1,3 +1,4 @@
 pub mod Plain
 pub mod Counting
 pub mod Typing
+pub mod Only

@@ -1,5 +1,6 @@
 -- Files of blocks: what is read of one, and why nothing is.
-use Rattle.std.specs.Prelude.{◌≡◌, ◌⊎◌, ℕ, ◌<◌, ◌≤◌, List, length, take, All, Option, Some, None, IfSome, ⊤}
+use Rattle.std.specs.Prelude.{◌≡◌, ◌⊎◌, ℕ, ◌<◌, ◌≤◌, List, length, take, All, Option, Some, None, Result, Ok, Err, Vec, IfSome, IsSomeAnd, ⊤}
+use Rattle.std.specs.declared.alloc.Global.{Global}
 use Rattle.std.specs.FinMap.{get}
 use Rattle.ir_syntax.specs.declared.block.Block.{Block}
 use Rattle.ir_syntax.specs.Typed.{IsWellTyped}
@@ -88,3 +89,19 @@ RefusesBlocks names name before now Absent = RefusesFile names name before now A
 RefusesBlocks names name before now TooLong = RefusesFile names name before now TooLong
 RefusesBlocks names name before now (Text f) = (now ≡ before) × IsFaultIn names name f
 RefusesBlocks names name before now (Memory e) = now ≡ before
+
+-- names are told, and the file of this name holds the text of these blocks
+pub record HoldsBlocks (names : Option NameMap) (name : List ℕ) (blocks : List Block) : Type 0 where
+  pub bytes : List ℕ
+  pub file : IsSomeAnd names (λ m. get m name ≡ Some bytes)
+  pub within : length bytes ≤ text_limit
+  pub are : AreBlocksOf bytes blocks
+
+-- these blocks are given, unless reading failed or memory ran out
+abbrev pub AreGiven : List Block → Result (Vec Block Global) IrFault → Type 0
+AreGiven blocks (Ok v) = v.items ≡ blocks
+AreGiven blocks (Err ReadFault) = ⊤
+AreGiven blocks (Err Absent) = ⊥
+AreGiven blocks (Err TooLong) = ⊥
+AreGiven blocks (Err (Text f)) = ⊥
+AreGiven blocks (Err (Memory e)) = ⊤

@@ -1,8 +1,9 @@
 //! From a file to blocks that are well typed.
 
 ghost use Rattle.std.specs.Prelude.{◌≡◌, ◌≤◌, List, ℕ, length, All, IfErr, IfOk, OnOk};
+ghost use Rattle.ir_syntax.specs.declared.block.Block.{Block as BlockData};
 ghost use Rattle.ir_text.specs.Text.{HasText, text};
-ghost use Rattle.ir_file.specs.Blocks.{AreBlocksIn, AreBlocksOf, IsFileOf, RefusesBlocks, RefusesFile, RefusesText, text_limit};
+ghost use Rattle.ir_file.specs.Blocks.{AreBlocksIn, AreBlocksOf, AreGiven, HoldsBlocks, IsFileOf, RefusesBlocks, RefusesFile, RefusesText, text_limit};
 
 use crate::fault::IrFault;
 use crate::lines::first_untyped;
@@ -59,19 +60,8 @@ fn blocks_of(alloc: Global, bytes: &[u8]) -> Result<Vec<Block>, IrFault>
     }
 }
 
-/// The blocks of the file `name`, whose bytes are the text of these blocks, each of which is well typed.
-///
-/// # Errors
-///
-/// In this order: `ReadFault`, only where the files' count of reads' faults rose; `Absent` where no file has the name; `TooLong`
-/// where it has more than 268,435,456 bytes; `Text` with the first place at which the bytes stop being the beginning of a text of
-/// blocks, or, where all of them are such a text, with the line of the first op or end of a part that isn't well typed, and
-/// column 1. `Memory` where memory is wanting, in place of any other.
-pub fn read_blocks<F: Files>(
-    alloc: Global,
-    name: &str,
-    files: &mut F,
-) -> Result<Vec<Block>, IrFault>
+// The blocks of the file of this name.
+fn read<F: Files>(alloc: Global, name: &str, files: &mut F) -> Result<Vec<Block>, IrFault>
     ensures blocks { IfOk result (λ blocks. AreBlocksIn (F.names files.old) name.now blocks.items) }
     ensures refusal { IfErr result (RefusesBlocks (F.names files.old) name.now (F.read_faults files.old) (F.read_faults files.new)) }
     ensures counted { OnOk result (F.read_faults files.new ≡ F.read_faults files.old) }
@@ -86,4 +76,28 @@ pub fn read_blocks<F: Files>(
         Ok(blocks) => Ok(blocks),
         Err(fault) => Err(fault),
     }
+}
+
+/// The blocks of the file `name`, whose bytes are the text of these blocks, each of which is well typed.
+///
+/// # Errors
+///
+/// In this order: `ReadFault`, only where the files' count of reads' faults rose; `Absent` where no file has the name; `TooLong`
+/// where it has more than 268,435,456 bytes; `Text` with the first place at which the bytes stop being the beginning of a text of
+/// blocks, or, where all of them are such a text, with the line of the first op or end of a part that isn't well typed, and
+/// column 1. `Memory` where memory is wanting, in place of any other.
+pub fn read_blocks<F: Files>(
+    alloc: Global,
+    name: &str,
+    files: &mut F,
+) -> Result<Vec<Block>, IrFault>
+    ensures blocks { IfOk result (λ blocks. AreBlocksIn (F.names files.old) name.now blocks.items) }
+    // What the file holds is given, unless reading fails or memory runs out.
+    ensures only { (blocks : List BlockData) → HoldsBlocks (F.names files.old) name.now blocks → AreGiven blocks result }
+    ensures refusal { IfErr result (RefusesBlocks (F.names files.old) name.now (F.read_faults files.old) (F.read_faults files.new)) }
+    ensures counted { OnOk result (F.read_faults files.new ≡ F.read_faults files.old) }
+    ensures names { F.names files.new ≡ F.names files.old }
+    ensures writes { F.write_faults files.new ≡ F.write_faults files.old }
+{
+    read(alloc, name, files)
 }
