@@ -1,5 +1,5 @@
 -- Refusals.
-use Rattle.std.proofs.Common.{◌≡◌, ◌⊎◌, ℕ, ◌≤◌, true, Bool, List, [], ◌∷◌, length, Option, Some, None, inl, inr, refl, sym, subst}
+use Rattle.std.proofs.Common.{◌≡◌, ℕ, ◌≤◌, true, Bool, List, [], ◌∷◌, length, Option, Some, None, inl, inr, refl, sym, subst}
 use Rattle.elf_image.specs.Layout.{ImageData}
 use Rattle.basic_blocks.specs.Reach.{IsReach}
 use Rattle.machine_laws.specs.Cases.{IsInput, reads_input}
@@ -9,7 +9,7 @@ use Rattle.run_start.specs.declared.fault.StartFault.{StartFault}
 use Rattle.run_start.specs.declared.fault.StartFault.TheVariants.{Image, ReadFault, Absent, IrText, Stale, Twice, TooLong, TooMany, Memory}
 use Rattle.run_start.specs.Case.{ArePlacesIn, IsCaseOf, IsFirstOf}
 use Rattle.run_start.specs.Program.{IsRead}
-use Rattle.run_start.specs.Refusal.{Counts, HasFile, HasProgram, IsFile, Refuses, RefusesFile, RefusesFirst, RefusesImage, RefusesInput, RefusesProgram, file_limit}
+use Rattle.run_start.specs.Refusal.{Counts, HasProgram, IsFile, Refuses, RefusesFile, RefusesFirst, RefusesImage, RefusesInput, RefusesProgram, file_limit}
 
 pub image_refuses : (bytes : List ℕ) (args : List (List ℕ)) (fault : StartFault) → RefusesImage bytes fault → RefusesProgram bytes args fault
 image_refuses bytes args (Image number) r = inl r

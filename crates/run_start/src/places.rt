@@ -66,11 +66,13 @@ fn accepted(alloc: Global, image: &Image, blocks: Vec<Block>) -> Result<Vec<Bloc
 {
     match accept(alloc, image, blocks) {
         Ok(all) => Ok(all),
-        Err(AcceptFault::Stale {
-            address,
-            file,
-            lifted,
-        }) => Err(StartFault::Stale {
+        Err(
+            AcceptFault::Stale {
+                address,
+                file,
+                lifted,
+            },
+        ) => Err(StartFault::Stale {
             address,
             file,
             lifted,

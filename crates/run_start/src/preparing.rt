@@ -52,7 +52,11 @@ fn read_whole<I: Source>(alloc: Global, input: &mut I) -> Result<Vec<u8>, StartF
 ///
 /// `ReadFault` where the input's count of faults rose, `TooLong` where more than 16,777,216 bytes are left, `Memory` where memory
 /// is wanting, in place of any other; each only where the image has a place of `read`.
-pub fn read_input<I: Source>(alloc: Global, image: &Image, input: &mut I) -> Result<Vec<u8>, StartFault>
+pub fn read_input<I: Source>(
+    alloc: Global,
+    image: &Image,
+    input: &mut I,
+) -> Result<Vec<u8>, StartFault>
     ensures input { IfOk result (λ bytes. IsInput (reads_input image.now) (I.left input.old) bytes.items) }
     ensures refusal { IfErr result (λ fault. (reads_input image.now ≡ true) × RefusesInput (I.left input.old) (I.faults input.old) (I.faults input.new) fault) }
     ensures counted { OnOk result (I.faults input.new ≡ I.faults input.old) }

@@ -96,11 +96,7 @@ pub struct Program {
 /// `Image` where the bytes are no image (1 to 12, 15 to 17) or can't be put into memory (13 and 14), `Memory` where memory is
 /// wanting.
 #[tactic(auto, using(crate::proofs::Reading::image_refuses))]
-pub fn read_program(
-    alloc: Global,
-    bytes: &[u8],
-    args: &[String],
-) -> Result<Program, StartFault>
+pub fn read_program(alloc: Global, bytes: &[u8], args: &[String]) -> Result<Program, StartFault>
     ensures read { IfOk result (λ p. IsRead bytes.now (map string_bytes args.now) p.image) }
     ensures start { IfOk result (λ p. p.start ≡ start_of p.image (map string_bytes args.now)) }
     ensures refusal { IfErr result (RefusesProgram bytes.now (map string_bytes args.now)) }

@@ -1,4 +1,4 @@
-use Rattle.std.proofs.Common.{List, ℕ, sym, subst, ◌∙◌}
+use Rattle.std.proofs.Common.{sym, subst, ◌∙◌}
 use Rattle.elf_image.specs.Layout.{ImageData}
 use Rattle.run_start.specs.First.{AreCodePlaces, AreLifted}
 use Rattle.run_start.proofs.Lifting.{blocks_fit, places_same}
